@@ -6,15 +6,12 @@ ghost use Rattle.lc_constructions.specs.Code.{IsCode};
 ghost use Rattle.lc_constructions.specs.Combined.{InDual};
 ghost use Rattle.lc_macwilliams.specs.Solving.{IsDualDistribution};
 
-use crate::plain::{Sums, add_row, sums_over, weight_of};
+use crate::plain::{Sums, add_row, negative, sums_over, weight_of};
 use crate::shapes::{Columns, Shape, shaped};
 use lc_code::Code;
-use lc_field::NoMemory;
 use lc_macwilliams::{from_dual, has_many_words, refusal};
 use lc_weights::{count_words, distribution};
 use std::alloc::Global;
-use std::process::Abort;
-use std::test::Fail;
 use std::thread::Threads;
 use test_rows::generated_by;
 
@@ -27,7 +24,7 @@ static FEWER_LENGTHS: [usize; 4] = [63, 65, 129, 255];
 static FEWEST_LENGTHS: [usize; 2] = [64, 193];
 
 // The dimensions over 2 elements that are looked at together.
-static BINARY: [usize; 5] = [1, 2, 11, 12, 13];
+static BINARY: [usize; 6] = [1, 2, 11, 12, 13, 16];
 
 // The other fields, and for each a dimension at which the zero word is the only head, and one at which there are more.
 static OTHERS: [(u64, usize, usize); 9] = [
@@ -41,16 +38,6 @@ static OTHERS: [(u64, usize, usize); 9] = [
     (13, 3, 4),
     (16, 3, 4),
 ];
-
-// The negative of an element, by the sums: the first element with which its sum is 0.
-fn negative(sums: &Sums, element: u8) -> u8 {
-    for b in 0..16u8 {
-        if sums[1][(element % 16) as usize * 16 + b as usize] == 0 {
-            return b;
-        }
-    }
-    0
-}
 
 // Adds a multiple of row i to a word.
 fn add_multiple(code: &Code, sums: &Sums, i: usize, c: u8, word: &mut [u8])
@@ -91,14 +78,15 @@ fn add_plainly(code: &Code, sums: &Sums, message: &mut [u8], word: &mut [u8], co
     }
 }
 
-// How many words of each weight a code has.
-fn plain_counts(alloc: Global, code: &Code) -> Result<Vec<u64>, Fail> {
-    let mut counts = vec![in alloc; 0u64; code.length() + 1]?;
-    let mut message = vec![in alloc; 0u8; code.dimension()]?;
-    let mut word = vec![in alloc; 0u8; code.length()]?;
+// How many words of each weight a code of length 255 at most and dimension 16 at most has, at their weights.
+fn plain_counts(code: &Code) -> [u64; 256] {
+    let mut counts = [0; 256];
+    let mut message = [0; 16];
+    let mut word = [0; 255];
+    let (k, n) = (code.dimension().min(16), code.length().min(255));
     let sums = sums_over(code.field());
-    add_plainly(code, &sums, &mut message, &mut word, &mut counts);
-    Ok(counts)
+    add_plainly(code, &sums, &mut message[..k], &mut word[..n], &mut counts);
+    counts
 }
 
 // Whether so many workers count this.
@@ -108,82 +96,72 @@ fn workers_count<R: Threads + Sync>(
     code: &Code,
     workers: u32,
     wanted: &[u64],
-) -> Result<bool, Fail>
+) -> bool
     requires workers { (1 ≤ workers) × (workers ≤ 256) }
 {
     let None = refusal(code) else {
-        return Ok(false);
+        return false;
     };
-    let counts = distribution(rt, alloc, code, workers)?;
-    Ok(counts.as_slice() == wanted)
+    match distribution(rt, alloc, code, workers) {
+        Ok(counts) => wanted.get(..counts.len()) == Some(counts.as_slice()),
+        Err(_) => false,
+    }
 }
 
 // Whether one worker and four count what a plain count of a code finds.
-fn counts_agree<R: Threads + Sync>(rt: &R, alloc: Global, code: &Code) -> Result<bool, Fail> {
-    let wanted = plain_counts(alloc, code)?;
-    Ok(workers_count(rt, alloc, code, 1, &wanted)? && workers_count(rt, alloc, code, 4, &wanted)?)
-}
-
-// Whether this is so of the code of a shape.
-fn shape_agrees<R: Abort + Threads + Sync>(
-    rt: &R,
-    alloc: Global,
-    q: u64,
-    length: usize,
-    dimension: usize,
-) -> Result<bool, Fail> {
-    let shape = Shape {
-        length,
-        dimension,
-        columns: Columns::Dense,
-    };
-    let code = shaped(rt, alloc, q, &shape)?;
-    counts_agree(rt, alloc, &code)
+fn counts_agree<R: Threads + Sync>(rt: &R, alloc: Global, code: &Code) -> bool {
+    let wanted = plain_counts(code);
+    workers_count(rt, alloc, code, 1, &wanted) && workers_count(rt, alloc, code, 4, &wanted)
 }
 
 // Whether this is so of codes of each of these lengths.
-fn lengths_agree<R: Abort + Threads + Sync>(
+fn lengths_agree<R: Threads + Sync>(
     rt: &R,
     alloc: Global,
     q: u64,
     dimension: usize,
     lengths: &[usize],
-) -> Result<bool, Fail> {
+) -> bool {
     for length in lengths {
-        let right = shape_agrees(rt, alloc, q, *length, dimension)?;
-        assert!(rt; right, "{q} {length} {dimension}");
+        let shape = Shape {
+            length: *length,
+            dimension,
+            columns: Columns::Dense,
+        };
+        let Ok(code) = shaped(alloc, q, &shape) else {
+            return false;
+        };
+        if !counts_agree(rt, alloc, &code) {
+            return false;
+        }
     }
-    Ok(true)
+    true
 }
 
 #[test]
-fn binary_codes_are_counted(rt: HostRuntime) -> Result<(), Fail> {
+fn binary_codes_are_counted(rt: HostRuntime) {
     for dimension in &BINARY {
-        assert!(rt; lengths_agree(&rt, rt.alloc(), 2, *dimension, &LENGTHS)?);
+        assert!(rt;
+            lengths_agree(&rt, rt.alloc(), 2, *dimension, &LENGTHS),
+            "{dimension}"
+        );
     }
-    Ok(())
 }
 
 #[test]
-fn binary_codes_of_dimension_16_are_counted(rt: HostRuntime) -> Result<(), Fail> {
-    assert!(rt; lengths_agree(&rt, rt.alloc(), 2, 16, &LENGTHS)?);
-    Ok(())
-}
-
-#[test]
-fn codes_without_heads_are_counted(rt: HostRuntime) -> Result<(), Fail> {
-    for (q, dimension, _more) in &OTHERS {
-        assert!(rt; lengths_agree(&rt, rt.alloc(), *q, *dimension, &FEWER_LENGTHS)?);
+fn codes_without_heads_and_with_heads_are_counted(rt: HostRuntime) {
+    for row in &OTHERS {
+        assert!(rt;
+            lengths_agree(&rt, rt.alloc(), row.0, row.1, &FEWER_LENGTHS),
+            "{}",
+            row.0
+        );
+        assert!(rt;
+            lengths_agree(&rt, rt.alloc(), row.0, row.2, &FEWEST_LENGTHS),
+            "{}",
+            row.0
+        );
     }
-    Ok(())
-}
-
-#[test]
-fn codes_with_heads_are_counted(rt: HostRuntime) -> Result<(), Fail> {
-    for (q, _less, dimension) in &OTHERS {
-        assert!(rt; lengths_agree(&rt, rt.alloc(), *q, *dimension, &FEWEST_LENGTHS)?);
-    }
-    Ok(())
 }
 
 // The length and the rows of a binary code, its weight distribution, and that of its dual.
@@ -209,14 +187,16 @@ static KNOWN: [Known; 3] = [
 
 // Whether these are the counts of the dual's words, and those of the words of the code are found from them. The code is a short
 // binary one.
-fn are_found(alloc: Global, code: &Code, counts: &[u64], row: &Known) -> Result<bool, NoMemory>
+fn are_found(alloc: Global, code: &Code, counts: &[u64], row: &Known) -> bool
     requires dual { IsDualDistribution code.now counts.now }
 {
     if counts != row.3 || code.field().size() != 2 || code.length() > 63 {
-        return Ok(false);
+        return false;
     }
-    let found = from_dual(alloc, code, counts)?;
-    Ok(found.as_slice() == row.2)
+    match from_dual(alloc, code, counts) {
+        Ok(found) => found.as_slice() == row.2,
+        Err(_) => false,
+    }
 }
 
 // The same, and the words of the dual are counted.
@@ -227,32 +207,31 @@ fn are_found_by_dual<R: Threads + Sync>(
     code: &Code,
     dual: &Code,
     row: &Known,
-) -> Result<bool, NoMemory>
+) -> bool
     requires dual { IsCode code.now.field code.now.columns (InDual code.now) dual.now }
 {
     let _matrix = code.matrix();
     if has_many_words(dual) {
-        return Ok(false);
+        return false;
     }
-    let counts = count_words(rt, alloc, dual, 1)?;
-    are_found(alloc, code, counts.as_slice(), row)
+    match count_words(rt, alloc, dual, 1) {
+        Ok(counts) => are_found(alloc, code, counts.as_slice(), row),
+        Err(_) => false,
+    }
 }
 
 // The same, and the dual is made.
-fn duals_agree<R: Threads + Sync>(
-    rt: &R,
-    alloc: Global,
-    code: &Code,
-    row: &Known,
-) -> Result<bool, NoMemory> {
-    let dual = code.dual(alloc)?;
-    are_found_by_dual(rt, alloc, code, &dual, row)
+fn duals_agree<R: Threads + Sync>(rt: &R, alloc: Global, code: &Code, row: &Known) -> bool {
+    match code.dual(alloc) {
+        Ok(dual) => are_found_by_dual(rt, alloc, code, &dual, row),
+        Err(_) => false,
+    }
 }
 
 // Whether this is so of the code of the row.
 fn is_known<R: Threads + Sync>(rt: &R, alloc: Global, row: &Known) -> bool {
     match generated_by(alloc, 2, row.0, row.1) {
-        Ok(code) => duals_agree(rt, alloc, &code, row) == Ok(true),
+        Ok(code) => duals_agree(rt, alloc, &code, row),
         Err(_refusal) => false,
     }
 }

@@ -3,19 +3,11 @@ ghost use Rattle.std.specs.Prelude.{◌≡◌, ◌<◌, length, All};
 ghost use Rattle.std.specs.Bool.{OnTrue};
 ghost use Rattle.lc_enumeration.specs.Search.{set_count};
 
+use crate::tasks::sets_of;
+use lc_code::Code;
 use lc_infoset::Sets;
 use std::alloc::Global;
-use std::process::Abort;
-use std::test::Fail;
 use test_rows::{Rows, generated_by, matrix_of, number_of};
-
-// The information sets of the code of rows that are seen to be words, not all of them zero.
-#[tactic(auto, using(lc_algebra::proofs::ReducedLaws::reduced_independent))]
-fn sets_of(rt: &impl Abort, alloc: Global, row: &Row) -> Result<Sets, Fail> {
-    let code = generated_by(alloc, row.0, row.1, row.2)?;
-    assert!(rt; 1 <= code.dimension() && code.field().is_symbol());
-    Ok(Sets::build(alloc, code.matrix())?)
-}
 
 // Whether row i of set j is 1 at column i of the basis and 0 at its others. There is a set j and a row i.
 fn is_unit(sets: &Sets, j: usize, i: usize) -> bool
@@ -186,20 +178,6 @@ static CODES: [Row; 14] = [
     ),
 ];
 
-// Whether the code of the row has these sets, and its sets the divisor.
-fn are_sets(rt: &impl Abort, alloc: Global, row: &Row) -> Result<bool, Fail> {
-    let sets = sets_of(rt, alloc, row)?;
-    Ok(has_sets(&sets, row.3) && sets.divisor() == row.4)
-}
-
-#[test]
-fn sets_with_their_fresh_columns(rt: HostRuntime) -> Result<(), Fail> {
-    for row in &CODES {
-        assert!(rt; are_sets(&rt, rt.alloc(), row)?, "{} {}", row.0, row.1);
-    }
-    Ok(())
-}
-
 // Whether there is one level for each set, each below k.
 fn are_levels(sets: &Sets, levels: &[u64]) -> bool
     ensures count { OnTrue result (length levels.now ≡ set_count sets.now) }
@@ -234,18 +212,32 @@ fn has_bounds(sets: &Sets, text: &str) -> bool {
     true
 }
 
-// Whether the sets of the code of the row have these bounds.
-fn are_bounds(rt: &impl Abort, alloc: Global, row: &Row) -> Result<bool, Fail> {
-    let sets = sets_of(rt, alloc, row)?;
-    Ok(has_bounds(&sets, row.5))
+// Whether the code has the row's divisor, and sets with that divisor, with their fresh columns and with their bounds.
+fn are_sets(alloc: Global, code: &Code, row: &Row) -> bool {
+    match sets_of(alloc, code) {
+        Some(sets) => {
+            code.divisor() == row.4
+                && sets.divisor() == row.4
+                && has_sets(&sets, row.3)
+                && has_bounds(&sets, row.5)
+        }
+        None => false,
+    }
+}
+
+// The same of the code of the row.
+fn has_row(alloc: Global, row: &Row) -> bool {
+    match generated_by(alloc, row.0, row.1, row.2) {
+        Ok(code) => are_sets(alloc, &code, row),
+        Err(_refusal) => false,
+    }
 }
 
 #[test]
-fn bounds_are_rounded_up(rt: HostRuntime) -> Result<(), Fail> {
+fn sets_have_their_fresh_columns_divisors_and_bounds(rt: HostRuntime) {
     for row in &CODES {
-        assert!(rt; are_bounds(&rt, rt.alloc(), row)?, "{} {}", row.0, row.1);
+        assert!(rt; has_row(rt.alloc(), row), "{} {}", row.0, row.1);
     }
-    Ok(())
 }
 
 // The size of the field, the length, some rows, and the number that divides the weights of their words.
@@ -288,20 +280,5 @@ fn divisors_of_rows(rt: HostRuntime) {
     for row in &ROWS {
         let is_right = has_divisor(rt.alloc(), row.0, row.1, row.2, row.3);
         assert!(rt; is_right, "{} {}", row.0, row.1);
-    }
-}
-
-// Whether the code of the row has its divisor.
-fn is_divided(alloc: Global, row: &Row) -> bool {
-    match generated_by(alloc, row.0, row.1, row.2) {
-        Ok(code) => code.divisor() == row.4,
-        Err(_refusal) => false,
-    }
-}
-
-#[test]
-fn divisors_of_codes(rt: HostRuntime) {
-    for row in &CODES {
-        assert!(rt; is_divided(rt.alloc(), row), "{} {}", row.0, row.1);
     }
 }

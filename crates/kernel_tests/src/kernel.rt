@@ -5,17 +5,16 @@ ghost use Rattle.lc_kernel.specs.Kernel.{IsPlanOf};
 
 use crate::blocks::Blocks;
 use crate::plain::{Sums, put_word, sums_over};
-use crate::shapes::{CHARACTERISTIC_2, CHARACTERISTIC_3, Columns, OTHER_PRIMES, Over, Shape};
-use crate::tasks::{Task, code_does, shape_does};
+use crate::shapes::{Columns, FIELDS, Over, Shape};
+use crate::tasks::{Task, made_does, shape_does};
 use lc_basic::{hamming, reed_muller};
-use lc_code::Code;
-use lc_field::Field;
+use lc_code::{Code, CodeRefusal};
+use lc_field::{Field, NoMemory};
 use lc_infoset::Sets;
 use lc_kernel::word_at;
 use lc_place::{Plan, Spot};
+use lc_vec::Word;
 use std::alloc::Global;
-use std::process::Abort;
-use std::test::Fail;
 use test_rows::{Rows, generated};
 
 // The numbers of checks and the sizes of the fields of some Hamming codes.
@@ -31,53 +30,41 @@ static HAMMING: [(u64, u64); 8] = [
 ];
 
 // The Hamming code with r checks over q elements.
-fn hamming_code(alloc: Global, r: u64, q: u64) -> Result<Code, Fail> {
-    let field = Field::of(alloc, q)?;
-    Ok(hamming(alloc, r, &field)?)
-}
-
-// Whether this is so for the Hamming code.
-fn hamming_agrees(rt: &impl Abort, alloc: Global, r: u64, q: u64) -> Result<bool, Fail> {
-    let code = hamming_code(alloc, r, q)?;
-    code_does(rt, alloc, &code, Task::Least(Blocks::First(12)))
+fn hamming_code(alloc: Global, r: u64, q: u64) -> Result<Code, CodeRefusal> {
+    match Field::of(alloc, q) {
+        Ok(field) => hamming(alloc, r, &field),
+        Err(_) => Err(CodeRefusal::NoMemory),
+    }
 }
 
 #[test]
-fn blocks_of_hamming_codes(rt: HostRuntime) -> Result<(), Fail> {
+fn blocks_of_hamming_codes(rt: HostRuntime) {
     for row in &HAMMING {
+        let code = hamming_code(rt.alloc(), row.0, row.1);
         assert!(rt;
-            hamming_agrees(&rt, rt.alloc(), row.0, row.1)?,
+            made_does(rt.alloc(), code, Task::Least(Blocks::First(12))),
             "{} {}",
             row.0,
             row.1
         );
     }
-    Ok(())
 }
 
 // The orders and the numbers of variables of some Reed-Muller codes, and how many blocks are looked at. The last two have over 64
 // columns outside a set, and blocks that begin within a head.
 static REED_MULLER: [(u64, u64, u64); 4] = [(2, 5, 40), (3, 6, 12), (1, 7, 12), (2, 7, 12)];
 
-// Whether this is so for the Reed-Muller code.
-fn reed_muller_agrees(
-    rt: &impl Abort,
-    alloc: Global,
-    r: u64,
-    m: u64,
-    most: u64,
-) -> Result<bool, Fail> {
-    let code = reed_muller(alloc, r, m)?;
-    code_does(rt, alloc, &code, Task::Least(Blocks::First(most)))
-}
-
 #[test]
-fn blocks_of_reed_muller_codes(rt: HostRuntime) -> Result<(), Fail> {
+fn blocks_of_reed_muller_codes(rt: HostRuntime) {
     for row in &REED_MULLER {
-        let agrees = reed_muller_agrees(&rt, rt.alloc(), row.0, row.1, row.2)?;
-        assert!(rt; agrees, "{} {}", row.0, row.1);
+        let code = reed_muller(rt.alloc(), row.0, row.1);
+        assert!(rt;
+            made_does(rt.alloc(), code, Task::Least(Blocks::First(row.2))),
+            "{} {}",
+            row.0,
+            row.1
+        );
     }
-    Ok(())
 }
 
 // Rows of codes over 4 and 7 elements, and their lengths.
@@ -103,22 +90,16 @@ static ROWS: [(u64, usize, Rows); 2] = [
     ),
 ];
 
-// Whether this is so for the code of the rows.
-fn rows_agree(rt: &impl Abort, alloc: Global, q: u64, n: usize, rows: Rows) -> Result<bool, Fail> {
-    let code = generated(alloc, q, n, rows)?;
-    code_does(rt, alloc, &code, Task::Least(Blocks::First(20)))
-}
-
 #[test]
-fn blocks_of_other_codes(rt: HostRuntime) -> Result<(), Fail> {
+fn blocks_of_other_codes(rt: HostRuntime) {
     for row in &ROWS {
+        let code = generated(rt.alloc(), row.0, row.1, row.2);
         assert!(rt;
-            rows_agree(&rt, rt.alloc(), row.0, row.1, row.2)?,
+            made_does(rt.alloc(), code, Task::Least(Blocks::First(20))),
             "{}",
             row.0
         );
     }
-    Ok(())
 }
 
 // The places of the code of the Hamming row, with the words there: block 0 has the places 0 to 3, and block 1, of the second
@@ -132,42 +113,30 @@ static WORDS: [(u64, Option<&[u8]>); 6] = [
     (4_503_599_627_370_495, None),
 ];
 
-// Whether this word, or none, is at a place.
-fn has_word(
-    alloc: Global,
-    sets: &Sets,
-    plan: &Plan,
-    place: u64,
-    word: &Option<&[u8]>,
-) -> Result<bool, Fail>
-    requires plan { IsPlanOf plan.now sets.now }
-{
-    let Some(found) = word_at(alloc, sets, plan, place)? else {
-        return Ok(word.is_none());
-    };
-    match word {
-        Some(symbols) => Ok(found.symbols() == *symbols),
-        None => Ok(false),
+// Whether this word, or none, is found.
+fn is_found(found: Result<Option<Word>, NoMemory>, word: Option<&[u8]>) -> bool {
+    match found {
+        Ok(Some(found)) => word == Some(found.symbols()),
+        Ok(None) => word.is_none(),
+        Err(_) => false,
     }
 }
 
-// Whether this is so of each row.
-pub(crate) fn has_words(alloc: Global, sets: &Sets, plan: &Plan) -> Result<bool, Fail>
+// Whether the words of the table are at their places.
+pub(crate) fn has_words(alloc: Global, sets: &Sets, plan: &Plan) -> bool
     requires plan { IsPlanOf plan.now sets.now }
 {
     for row in &WORDS {
-        if !has_word(alloc, sets, plan, row.0, &row.1)? {
-            return Ok(false);
+        if !is_found(word_at(alloc, sets, plan, row.0), row.1) {
+            return false;
         }
     }
-    Ok(true)
+    true
 }
 
 #[test]
-fn words_at_places(rt: HostRuntime) -> Result<(), Fail> {
-    let code = hamming_code(rt.alloc(), 3, 2)?;
-    assert!(rt; code_does(&rt, rt.alloc(), &code, Task::Words)?);
-    Ok(())
+fn words_at_places(rt: HostRuntime) {
+    assert!(rt; made_does(rt.alloc(), hamming_code(rt.alloc(), 3, 2), Task::Words));
 }
 
 // Makes a word the last one of a block. False if it can't be made.
@@ -198,7 +167,7 @@ fn has_end(
     block: u64,
     spot: &mut Spot,
     word: &mut [u8],
-) -> Result<bool, Fail>
+) -> bool
     requires plan { IsPlanOf plan.now sets.now }
     requires block { block < total plan.now.k plan.now.q plan.now.m }
     requires room { plan.now.k ≤ spot.old.room }
@@ -206,14 +175,14 @@ fn has_end(
 {
     let sums = sums_over(sets.field());
     if !put_last(sets, &sums, plan, block, spot, word) {
-        return Ok(false);
+        return false;
     }
     let many = plan.block_len(block);
     let end = block.saturating_mul(4096).saturating_add(many);
-    Ok(
-        has_word(alloc, sets, plan, end.saturating_sub(1), &Some(word))?
-            && (many == 4096 || has_word(alloc, sets, plan, end, &None)?),
-    )
+    is_found(
+        word_at(alloc, sets, plan, end.saturating_sub(1)),
+        Some(word),
+    ) && (many == 4096 || is_found(word_at(alloc, sets, plan, end), None))
 }
 
 // Whether this is so of the blocks of a level in set 0.
@@ -224,7 +193,7 @@ fn has_ends(
     level: usize,
     spot: &mut Spot,
     word: &mut [u8],
-) -> Result<bool, Fail>
+) -> bool
     requires plan { IsPlanOf plan.now sets.now }
     requires room { plan.now.k ≤ spot.old.room }
 {
@@ -232,62 +201,48 @@ fn has_ends(
         let phase = plan.phase_of(block);
         if phase.level == level
             && phase.set == 0
-            && !has_end(alloc, sets, plan, block, spot, word)?
+            && !has_end(alloc, sets, plan, block, spot, word)
         {
-            return Ok(false);
+            return false;
         }
     }
-    Ok(true)
+    true
 }
 
 // Whether this is so by a word of its own.
-fn spot_has_ends(
-    alloc: Global,
-    sets: &Sets,
-    plan: &Plan,
-    level: usize,
-    spot: &mut Spot,
-) -> Result<bool, Fail>
+fn spot_has_ends(alloc: Global, sets: &Sets, plan: &Plan, level: usize, spot: &mut Spot) -> bool
     requires plan { IsPlanOf plan.now sets.now }
     requires room { plan.now.k ≤ spot.old.room }
 {
-    let mut word = vec![in alloc; 0u8; sets.length()]?;
-    has_ends(alloc, sets, plan, level, spot, &mut word)
+    match vec![in alloc; 0u8; sets.length()] {
+        Ok(mut word) => has_ends(alloc, sets, plan, level, spot, &mut word),
+        Err(_) => false,
+    }
 }
 
 // Whether the last words of the blocks of a level in set 0 are at their places, and none after them.
-pub(crate) fn words_are_at_ends(
-    alloc: Global,
-    sets: &Sets,
-    plan: &Plan,
-    level: usize,
-) -> Result<bool, Fail>
+pub(crate) fn words_are_at_ends(alloc: Global, sets: &Sets, plan: &Plan, level: usize) -> bool
     requires plan { IsPlanOf plan.now sets.now }
 {
-    let mut spot = Spot::new(alloc, sets.dimension())?;
-    spot_has_ends(alloc, sets, plan, level, &mut spot)
+    match Spot::new(alloc, sets.dimension()) {
+        Ok(mut spot) => spot_has_ends(alloc, sets, plan, level, &mut spot),
+        Err(_) => false,
+    }
 }
 
 // Whether this is so for a code over a field, with two columns outside its sets.
-fn field_has_ends(rt: &impl Abort, alloc: Global, over: &Over) -> Result<bool, Fail> {
+fn field_has_ends(alloc: Global, over: &Over) -> bool {
     let shape = Shape {
         length: over.dimension.saturating_add(2),
         dimension: over.dimension,
         columns: Columns::Dense,
     };
-    shape_does(rt, alloc, over.q, &shape, Task::Ends(over.level))
+    shape_does(alloc, over.q, &shape, Task::Ends(over.level))
 }
 
 #[test]
-fn words_at_the_ends_of_blocks(rt: HostRuntime) -> Result<(), Fail> {
-    for over in &CHARACTERISTIC_2 {
-        assert!(rt; field_has_ends(&rt, rt.alloc(), over)?, "{}", over.q);
+fn words_at_the_ends_of_blocks(rt: HostRuntime) {
+    for over in &FIELDS {
+        assert!(rt; field_has_ends(rt.alloc(), over), "{}", over.q);
     }
-    for over in &CHARACTERISTIC_3 {
-        assert!(rt; field_has_ends(&rt, rt.alloc(), over)?, "{}", over.q);
-    }
-    for over in &OTHER_PRIMES {
-        assert!(rt; field_has_ends(&rt, rt.alloc(), over)?, "{}", over.q);
-    }
-    Ok(())
 }

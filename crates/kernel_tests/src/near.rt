@@ -1,14 +1,15 @@
 //! Nearest words by error patterns, with one worker and with four, as tools/near_numbers.py prints them.
-ghost use Rattle.std.specs.Prelude.{◌≡◌, ◌<◌, ◌≤◌, length};
+ghost use Rattle.std.specs.Prelude.{◌<◌, ◌≤◌};
 
+use crate::tasks::sets_of;
 use lc_code::Code;
 use lc_coset::{Near, nearest};
-use lc_field::{Field, NoMemory};
+use lc_field::NoMemory;
 use lc_infoset::Sets;
 use lc_vec::Word;
 use std::alloc::Global;
 use std::thread::Threads;
-use test_rows::{are_words, is_word};
+use test_rows::{code_of, is_word};
 
 // What is asked: the size of the field, the length, the dimension, the first state of the generator that gives the rows of the code
 // and then the word, and the budget in blocks. What is found: 1 if the answer is exact, else 0; the lower end, the distance, the
@@ -171,20 +172,6 @@ fn finds<R: Threads + Sync>(
     }
 }
 
-// The code over q elements of words of n symbols, if they are.
-fn code_of(alloc: Global, q: u64, n: usize, words: &[Word]) -> Option<Code> {
-    let Ok(field) = Field::of(alloc, q) else {
-        return None;
-    };
-    if !field.is_symbol() || n < 1 || n > 255 || !are_words(&field, n, words) {
-        return None;
-    }
-    match Code::from_rows(alloc, &field, n, words) {
-        Ok(code) => Some(code),
-        Err(_) => None,
-    }
-}
-
 // The same for the code of these words, with one worker and with four.
 fn finds_in<R: Threads + Sync>(
     rt: &R,
@@ -194,45 +181,37 @@ fn finds_in<R: Threads + Sync>(
     asked: &[u64; 5],
     found: &[u64; 5],
 ) -> bool {
-    let Some(code) = code_of(alloc, asked[0], asked[1] as usize, rows) else {
-        return false;
-    };
-    finds(rt, alloc, &code, x, asked[4], 1, found) && finds(rt, alloc, &code, x, asked[4], 4, found)
+    match code_of(alloc, asked[0], asked[1] as usize, rows) {
+        Ok(code) => {
+            finds(rt, alloc, &code, x, asked[4], 1, found)
+                && finds(rt, alloc, &code, x, asked[4], 4, found)
+        }
+        Err(_refusal) => false,
+    }
+}
+
+// The rows of a case, and after them its word.
+fn rows_and_word(alloc: Global, asked: &[u64; 5]) -> Result<Vec<Word>, NoMemory> {
+    let q = asked[0].clamp(1, 256);
+    let mut state = asked[3];
+    words(alloc, q, asked[1], asked[2].saturating_add(1), &mut state)
 }
 
 // Whether a case is as the table has it.
 fn agrees<R: Threads + Sync>(rt: &R, alloc: Global, asked: &[u64; 5], found: &[u64; 5]) -> bool {
-    let mut state = asked[3];
-    if asked[0] == 0 || asked[0] > 256 {
+    let Ok(all) = rows_and_word(alloc, asked) else {
         return false;
+    };
+    match all.split_last() {
+        Some((x, rows)) => finds_in(rt, alloc, rows, x, asked, found),
+        None => false,
     }
-    let Ok(rows) = words(alloc, asked[0], asked[1], asked[2], &mut state) else {
-        return false;
-    };
-    let Ok(x) = word(alloc, asked[0], asked[1], &mut state) else {
-        return false;
-    };
-    finds_in(rt, alloc, &rows, &x, asked, found)
 }
 
 #[test]
 fn nearest_words_by_error_patterns(rt: HostRuntime) {
     for case in &CASES {
         assert!(rt; agrees(&rt, rt.alloc(), &case.0, &case.1));
-    }
-}
-
-// The information sets of a code, if it has rows.
-#[tactic(auto, using(lc_algebra::proofs::ReducedLaws::reduced_independent))]
-fn sets_of(alloc: Global, code: &Code) -> Option<Sets> {
-    let _symbol = code.field();
-    let _long = code.length();
-    if code.dimension() == 0 {
-        return None;
-    }
-    match Sets::build(alloc, code.matrix()) {
-        Ok(sets) => Some(sets),
-        Err(_) => None,
     }
 }
 
@@ -243,17 +222,12 @@ fn fronted(alloc: Global, count: usize, c: u8, word: &[u8]) -> Result<Word, NoMe
     Ok(Word::from_vec(symbols))
 }
 
-// The rows of a code, with `count` zeros before each, and the word with as many ones before it.
-fn larger_rows(
-    alloc: Global,
-    count: usize,
-    rows: &[Word],
-    x: &Word,
-) -> Result<Vec<Word>, NoMemory> {
+// The rows of a case, with `count` zeros before each, and its word with as many ones before it.
+fn larger_rows(alloc: Global, count: usize, all: &[Word]) -> Result<Vec<Word>, NoMemory> {
     let mut larger = Vec::new(alloc);
-    larger.push(fronted(alloc, count, 1, x.symbols())?)?;
-    for row in rows {
-        larger.push(fronted(alloc, count, 0, row.symbols())?)?;
+    for i in 0..all.len() {
+        let c = u8::from(i + 1 == all.len());
+        larger.push(fronted(alloc, count, c, all[i].symbols())?)?;
     }
     Ok(larger)
 }
@@ -278,48 +252,59 @@ fn is_larger(larger: &Sets, sets: &Sets) -> bool {
     true
 }
 
-// Whether the word makes such a larger code of the code of the rows. True if that would have more than 255 columns.
-fn grows(alloc: Global, q: u64, n: usize, rows: &[Word], x: &Word) -> bool {
-    let Some(code) = code_of(alloc, q, n, rows) else {
-        return false;
-    };
-    let Some(sets) = sets_of(alloc, &code) else {
-        return false;
-    };
-    let columns = sets.count() + sets.length();
-    if columns > 255 {
-        return true;
-    }
-    let Ok(wide) = larger_rows(alloc, sets.count(), rows, x) else {
-        return false;
-    };
-    has_larger(alloc, q, columns, &wide, &sets)
-}
-
-// Whether these rows are those of such a larger code of the code with these sets.
-fn has_larger(alloc: Global, q: u64, columns: usize, rows: &[Word], sets: &Sets) -> bool {
-    let Some(code) = code_of(alloc, q, columns, rows) else {
-        return false;
-    };
-    match sets_of(alloc, &code) {
+// Whether the code is such a larger code of the code with these sets.
+fn is_larger_code(alloc: Global, code: &Code, sets: &Sets) -> bool {
+    match sets_of(alloc, code) {
         Some(larger) => is_larger(&larger, sets),
         None => false,
     }
 }
 
+// The same of the code of these rows.
+fn has_larger(alloc: Global, q: u64, columns: usize, rows: &[Word], sets: &Sets) -> bool {
+    match code_of(alloc, q, columns, rows) {
+        Ok(code) => is_larger_code(alloc, &code, sets),
+        Err(_refusal) => false,
+    }
+}
+
+// Whether the word of a case makes such a larger code of the code with these sets. True if that would have more than 255 columns.
+fn sets_grow(alloc: Global, q: u64, sets: &Sets, all: &[Word]) -> bool {
+    let columns = sets.count().saturating_add(sets.length());
+    if columns > 255 {
+        return true;
+    }
+    match larger_rows(alloc, sets.count(), all) {
+        Ok(wide) => has_larger(alloc, q, columns, &wide, sets),
+        Err(NoMemory) => false,
+    }
+}
+
+// The same of a code.
+fn code_grows(alloc: Global, q: u64, code: &Code, all: &[Word]) -> bool {
+    match sets_of(alloc, code) {
+        Some(sets) => sets_grow(alloc, q, &sets, all),
+        None => false,
+    }
+}
+
+// The same of the code of the rows, all words but the last.
+fn grows(alloc: Global, q: u64, n: usize, all: &[Word]) -> bool {
+    let Some((_x, rows)) = all.split_last() else {
+        return false;
+    };
+    match code_of(alloc, q, n, rows) {
+        Ok(code) => code_grows(alloc, q, &code, all),
+        Err(_refusal) => false,
+    }
+}
+
 // Whether the word of a case makes such a larger code of the code.
 fn grows_in(alloc: Global, asked: &[u64; 5]) -> bool {
-    let mut state = asked[3];
-    if asked[0] == 0 || asked[0] > 256 {
-        return false;
+    match rows_and_word(alloc, asked) {
+        Ok(all) => grows(alloc, asked[0], asked[1] as usize, &all),
+        Err(NoMemory) => false,
     }
-    let Ok(rows) = words(alloc, asked[0], asked[1], asked[2], &mut state) else {
-        return false;
-    };
-    let Ok(x) = word(alloc, asked[0], asked[1], &mut state) else {
-        return false;
-    };
-    grows(alloc, asked[0], asked[1] as usize, &rows, &x)
 }
 
 // `nearest` compares the same sets, and is quick only if they are so.

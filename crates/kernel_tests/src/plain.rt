@@ -24,6 +24,16 @@ pub(crate) fn sums_over(field: &Field) -> Sums {
     sums
 }
 
+// The negative of an element, by the sums: the first element with which its sum is 0.
+pub(crate) fn negative(sums: &Sums, element: u8) -> u8 {
+    for b in 0..16u8 {
+        if sums[1][(element % 16) as usize * 16 + b as usize] == 0 {
+            return b;
+        }
+    }
+    0
+}
+
 // Adds a multiple of a row to a word, by the sums of its element.
 pub(crate) fn add_row(sums: &[u8; 256], row: &[u8], word: &mut [u8]) {
     for column in 0..word.len().min(row.len()) {

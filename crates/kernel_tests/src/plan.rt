@@ -2,6 +2,7 @@
 ghost use Rattle.std.specs.Prelude.{◌≡◌, ◌≤◌};
 
 use lc_place::{NoMemory, Plan, Spot};
+use std::alloc::Global;
 
 fn crosses<T: Send>(_value: &T) {}
 
@@ -36,16 +37,6 @@ fn are_binary_steps(plan: &Plan, spot: &mut Spot) -> bool
         && is_at(spot, 0, &[2, 3], &[1, 1])
 }
 
-#[test]
-fn binary_steps_change_from_the_first_moved_place(rt: HostRuntime) -> Result<(), NoMemory> {
-    let plan = Plan::build(rt.alloc(), 4, 2, 1)?;
-    let mut spot = Spot::new(rt.alloc(), 4)?;
-    crosses(&spot);
-    is_shared(&plan);
-    assert!(rt; are_binary_steps(&plan, &mut spot));
-    Ok(())
-}
-
 // Whether block 1 of dimension 2 over 3 elements has two messages.
 fn has_a_pair(plan: &Plan, spot: &mut Spot) -> bool
     requires room { plan.now.k ≤ spot.old.room }
@@ -72,24 +63,6 @@ fn are_ternary_steps(plan: &Plan, spot: &mut Spot) -> bool
         plan.step(spot),
     ];
     changes == [Some(2), Some(1), Some(2), Some(1)] && is_at(spot, 0, &[0, 1, 3], &[1, 1, 1])
-}
-
-#[test]
-fn ternary_pairs_have_both_second_coefficients(rt: HostRuntime) -> Result<(), NoMemory> {
-    let plan = Plan::build(rt.alloc(), 2, 3, 1)?;
-    let mut spot = Spot::new(rt.alloc(), 4)?;
-    assert!(rt; has_a_pair(&plan, &mut spot));
-    Ok(())
-}
-
-#[test]
-fn ternary_steps_change_from_the_coefficients_that_begin_anew(
-    rt: HostRuntime,
-) -> Result<(), NoMemory> {
-    let plan = Plan::build(rt.alloc(), 4, 3, 1)?;
-    let mut spot = Spot::new(rt.alloc(), 4)?;
-    assert!(rt; are_ternary_steps(&plan, &mut spot));
-    Ok(())
 }
 
 // Of the plan of dimension 45 over 2 elements a block, the level of its phase, where the phase begins and ends, and how many messages
@@ -127,13 +100,6 @@ fn are_phases(plan: &Plan) -> bool {
     true
 }
 
-#[test]
-fn phases_have_the_blocks_of_their_levels(rt: HostRuntime) -> Result<(), NoMemory> {
-    let plan = Plan::build(rt.alloc(), 45, 2, 1)?;
-    assert!(rt; plan.total() == 8_589_934_619 && are_phases(&plan));
-    Ok(())
-}
-
 // Whether the set's phase at level 1 is one block of one message.
 fn is_one_message(plan: &Plan, spot: &mut Spot, set: u8) -> bool
     requires room { plan.now.k ≤ spot.old.room }
@@ -163,14 +129,6 @@ fn are_one_message(plan: &Plan, spot: &mut Spot) -> bool
         && is_one_message(plan, spot, 3)
 }
 
-#[test]
-fn sets_follow_one_another_within_a_level(rt: HostRuntime) -> Result<(), NoMemory> {
-    let plan = Plan::build(rt.alloc(), 1, 3, 4)?;
-    let mut spot = Spot::new(rt.alloc(), 1)?;
-    assert!(rt; plan.total() == 4 && are_one_message(&plan, &mut spot));
-    Ok(())
-}
-
 // Whether the plan of dimension 255 over 16 elements is cut at 2^40, in a phase of level 6.
 fn is_cut(plan: &Plan) -> bool {
     let total = plan.total();
@@ -189,20 +147,6 @@ fn is_filled(plan: &Plan) -> bool {
     plan.total() == 9 && plan.block_len(8) == 4096 && plan.phase_of(8).start == 8
 }
 
-#[test]
-fn a_plan_is_cut(rt: HostRuntime) -> Result<(), NoMemory> {
-    let plan = Plan::build(rt.alloc(), 255, 16, 1)?;
-    assert!(rt; is_cut(&plan));
-    Ok(())
-}
-
-#[test]
-fn a_phase_may_fill_its_block(rt: HostRuntime) -> Result<(), NoMemory> {
-    let plan = Plan::build(rt.alloc(), 7, 5, 1)?;
-    assert!(rt; is_filled(&plan));
-    Ok(())
-}
-
 // Whether the block begins in set 0, with this support and these coefficients.
 fn begins(plan: &Plan, spot: &mut Spot, block: u64, support: &[usize], coefficients: &[u8]) -> bool
     requires room { plan.now.k ≤ spot.old.room }
@@ -214,26 +158,89 @@ fn begins(plan: &Plan, spot: &mut Spot, block: u64, support: &[usize], coefficie
     is_at(spot, 0, support, coefficients)
 }
 
-#[test]
-fn a_binary_block_begins_in_the_middle_of_a_level(rt: HostRuntime) -> Result<(), NoMemory> {
-    let plan = Plan::build(rt.alloc(), 45, 2, 1)?;
-    let mut spot = Spot::new(rt.alloc(), 45)?;
-    assert!(rt;
-        begins(
-            &plan,
-            &mut spot,
-            341,
-            &[32, 33, 38, 40, 42],
-            &[1, 1, 1, 1, 1]
-        )
-    );
-    Ok(())
+// What is asked of a plan: its steps over 2 or 3 elements, its phases, or that a block begins with this support and these coefficients.
+enum Asked {
+    BinarySteps,
+    Pair,
+    TernarySteps,
+    Phases,
+    OneMessage,
+    Cut,
+    Filled,
+    Begins(u64, &'static [usize], &'static [u8]),
 }
 
+// Whether the plan is as it is to be, by this spot.
+fn is_right(plan: &Plan, spot: &mut Spot, asked: &Asked) -> bool
+    requires room { plan.now.k ≤ spot.old.room }
+{
+    match asked {
+        Asked::BinarySteps => are_binary_steps(plan, spot),
+        Asked::Pair => has_a_pair(plan, spot),
+        Asked::TernarySteps => are_ternary_steps(plan, spot),
+        Asked::Phases => plan.total() == 8_589_934_619 && are_phases(plan),
+        Asked::OneMessage => plan.total() == 4 && are_one_message(plan, spot),
+        Asked::Cut => is_cut(plan),
+        Asked::Filled => is_filled(plan),
+        Asked::Begins(block, support, coefficients) => {
+            begins(plan, spot, *block, support, coefficients)
+        }
+    }
+}
+
+// The same by a spot of its own. Threads may share the plan, and spots may go from one to another.
+fn is_right_plan(alloc: Global, plan: &Plan, asked: &Asked) -> bool
+    requires room { plan.now.k ≤ 255 }
+{
+    is_shared(plan);
+    match Spot::new(alloc, 255) {
+        Ok(mut spot) => {
+            crosses(&spot);
+            is_right(plan, &mut spot, asked)
+        }
+        Err(NoMemory) => false,
+    }
+}
+
+// The same of the plan of dimension k over q elements with so many sets.
+fn is_planned(alloc: Global, k: usize, q: u64, sets: usize, asked: &Asked) -> bool {
+    if k < 1 || k > 255 || q < 2 || q > 16 || sets < 1 || sets > 255 {
+        return false;
+    }
+    match Plan::build(alloc, k, q, sets) {
+        Ok(plan) => is_right_plan(alloc, &plan, asked),
+        Err(NoMemory) => false,
+    }
+}
+
+// Dimensions, sizes of fields, how many sets there are, and what is asked: the places from which steps change, over 2 elements from the
+// first that moves, and over 3 from the coefficients that begin anew; the phases of each level, and those of several sets; a plan that
+// is cut, and a phase that fills its block; blocks that begin in the middle of a level.
+static PLANS: [(usize, u64, usize, Asked); 9] = [
+    (4, 2, 1, Asked::BinarySteps),
+    (2, 3, 1, Asked::Pair),
+    (4, 3, 1, Asked::TernarySteps),
+    (45, 2, 1, Asked::Phases),
+    (1, 3, 4, Asked::OneMessage),
+    (255, 16, 1, Asked::Cut),
+    (7, 5, 1, Asked::Filled),
+    (
+        45,
+        2,
+        1,
+        Asked::Begins(341, &[32, 33, 38, 40, 42], &[1, 1, 1, 1, 1]),
+    ),
+    (20, 4, 2, Asked::Begins(11, &[0, 1, 17, 19], &[1, 3, 1, 2])),
+];
+
 #[test]
-fn a_quaternary_block_begins_in_the_middle_of_a_level(rt: HostRuntime) -> Result<(), NoMemory> {
-    let plan = Plan::build(rt.alloc(), 20, 4, 2)?;
-    let mut spot = Spot::new(rt.alloc(), 45)?;
-    assert!(rt; begins(&plan, &mut spot, 11, &[0, 1, 17, 19], &[1, 3, 1, 2]));
-    Ok(())
+fn plans_have_their_phases_blocks_and_steps(rt: HostRuntime) {
+    for row in &PLANS {
+        assert!(rt;
+            is_planned(rt.alloc(), row.0, row.1, row.2, &row.3),
+            "{} {}",
+            row.0,
+            row.1
+        );
+    }
 }

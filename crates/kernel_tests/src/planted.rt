@@ -1,32 +1,19 @@
 //! Codes in which one word alone is zero outside the first columns: it is the lightest, and its place is chosen.
-ghost use Rattle.std.specs.Prelude.{◌≡◌, ◌<◌, ◌≤◌, IfOk};
+ghost use Rattle.std.specs.Prelude.{◌≡◌, ◌<◌, ◌≤◌};
 ghost use Rattle.lc_enumeration.specs.Plan.{total};
 ghost use Rattle.lc_kernel.specs.Kernel.{IsPlanOf};
 
-use crate::plain::{Sums, sums_over};
-use crate::shapes::{
-    CHARACTERISTIC_2, CHARACTERISTIC_3, Columns, OTHER_PRIMES, Over, Shape, code_over, rows,
-};
-use crate::tasks::{Task, code_does};
-use lc_code::Code;
+use crate::plain::{Sums, negative, sums_over};
+use crate::shapes::{Columns, FIELDS, Over, Shape, rows};
+use crate::tasks::{Task, made_does};
+use lc_code::{Code, CodeRefusal};
 use lc_field::{Field, NoMemory};
 use lc_infoset::Sets;
 use lc_kernel::{Scratch, least};
 use lc_place::{Plan, Spot};
 use lc_vec::Word;
 use std::alloc::Global;
-use std::process::Abort;
-use std::test::Fail;
-
-// The element whose sum with another is zero.
-fn negative(sums: &Sums, a: u8) -> u8 {
-    for b in 0..16u8 {
-        if sums[1][b as usize * 16 + (a % 16) as usize] == 0 {
-            return b;
-        }
-    }
-    0
-}
+use test_rows::code_of;
 
 // The symbol that the row of the spot's first entry has at a column where the spot's word is zero.
 fn opposite(sums: &Sums, words: &[Word], spot: &Spot, column: usize) -> u8 {
@@ -90,28 +77,20 @@ fn shaped_rows(
     planted_rows(alloc, &sums_over(field), &words, spot, shape.dimension)
 }
 
-// The code of these rows over a field.
-fn planted_over(
-    rt: &impl Abort,
-    alloc: Global,
-    field: &Field,
-    shape: &Shape,
-    spot: &Spot,
-) -> Result<Code, Fail> {
-    let words = shaped_rows(alloc, field, shape, spot)?;
-    code_over(rt, alloc, field, shape.length, &words)
+// The same over q elements.
+fn rows_over(alloc: Global, q: u64, shape: &Shape, spot: &Spot) -> Result<Vec<Word>, NoMemory> {
+    match Field::of(alloc, q) {
+        Ok(field) => shaped_rows(alloc, &field, shape, spot),
+        Err(_refusal) => Err(NoMemory),
+    }
 }
 
-// The code of these rows over q elements.
-fn planted_code(
-    rt: &impl Abort,
-    alloc: Global,
-    q: u64,
-    shape: &Shape,
-    spot: &Spot,
-) -> Result<Code, Fail> {
-    let field = Field::of(alloc, q)?;
-    planted_over(rt, alloc, &field, shape, spot)
+// The code of these rows.
+fn planted_code(alloc: Global, q: u64, shape: &Shape, spot: &Spot) -> Result<Code, CodeRefusal> {
+    match rows_over(alloc, q, shape, spot) {
+        Ok(words) => code_of(alloc, q, shape.length, &words),
+        Err(NoMemory) => Err(CodeRefusal::NoMemory),
+    }
 }
 
 // A planted word: the level, the block, counted from the first one of the level, and the offset.
@@ -152,39 +131,34 @@ fn has_least(sets: &Sets, plan: &Plan, planted: Planted, scratch: &mut Scratch) 
 }
 
 // Whether a planted word is the least one of its block.
-pub(crate) fn is_least(
-    alloc: Global,
-    sets: &Sets,
-    plan: &Plan,
-    planted: Planted,
-) -> Result<bool, Fail>
+pub(crate) fn is_least(alloc: Global, sets: &Sets, plan: &Plan, planted: Planted) -> bool
     requires plan { IsPlanOf plan.now sets.now }
 {
-    let mut scratch = Scratch::new(alloc, sets)?;
-    Ok(has_least(sets, plan, planted, &mut scratch))
+    match Scratch::new(alloc, sets) {
+        Ok(mut scratch) => has_least(sets, plan, planted, &mut scratch),
+        Err(_) => false,
+    }
 }
 
 // Whether this is so for the code with the spot's word planted.
-fn spot_is_found(
-    rt: &impl Abort,
-    alloc: Global,
-    over: &Over,
-    spot: &Spot,
-    planted: Planted,
-) -> Result<bool, Fail> {
+fn spot_is_found(alloc: Global, over: &Over, spot: &Spot, planted: Planted) -> bool {
     let shape = Shape {
         length: over.dimension.saturating_add(20),
         dimension: over.dimension,
         columns: Columns::Dense,
     };
-    let code = planted_code(rt, alloc, over.q, &shape, spot)?;
-    code_does(rt, alloc, &code, Task::Found(planted))
+    made_does(
+        alloc,
+        planted_code(alloc, over.q, &shape, spot),
+        Task::Found(planted),
+    )
 }
 
 // Goes to the message at an offset of a block.
 fn go_to(plan: &Plan, block: u64, offset: u64, spot: &mut Spot)
     requires block { block < total plan.now.k plan.now.q plan.now.m }
     requires room { plan.now.k ≤ spot.old.room }
+    ensures room { spot.new.room ≡ spot.old.room }
 {
     plan.start_of(block, spot);
     for _step in 0..offset {
@@ -192,87 +166,73 @@ fn go_to(plan: &Plan, block: u64, offset: u64, spot: &mut Spot)
     }
 }
 
-// Whether this is so for the word at an offset of a block, in a plan of one set.
+// Whether this is so for the word at an offset of a block, in a plan of one set, by this spot.
 fn offset_is_found(
-    rt: &impl Abort,
     alloc: Global,
     over: &Over,
     plan: &Plan,
     block: u64,
     offset: u64,
-) -> Result<bool, Fail>
+    spot: &mut Spot,
+) -> bool
     requires block { block < total plan.now.k plan.now.q plan.now.m }
-    requires room { plan.now.k ≤ 255 }
+    requires room { plan.now.k ≤ spot.old.room }
+    ensures room { spot.new.room ≡ spot.old.room }
 {
-    let mut spot = Spot::new(alloc, 255)?;
-    go_to(plan, block, offset, &mut spot);
+    go_to(plan, block, offset, spot);
     let planted = Planted {
         level: over.level,
         block: block.saturating_sub(plan.phase_of(block).start),
         offset,
     };
-    spot_is_found(rt, alloc, over, &spot, planted)
+    spot_is_found(alloc, over, spot, planted)
 }
 
-// Whether this is so of the first word and the last one of a block.
-fn ends_are_found(
-    rt: &impl Abort,
-    alloc: Global,
-    over: &Over,
-    plan: &Plan,
-    block: u64,
-) -> Result<bool, Fail>
-    requires block { block < total plan.now.k plan.now.q plan.now.m }
-    requires room { plan.now.k ≤ 255 }
-{
-    let last = plan.block_len(block).saturating_sub(1);
-    Ok(
-        offset_is_found(rt, alloc, over, plan, block, 0)?
-            && offset_is_found(rt, alloc, over, plan, block, last)?,
-    )
-}
-
-// Whether this is so of the first block of the level of several, and of its last.
-fn field_is_found(rt: &impl Abort, alloc: Global, over: &Over, plan: &Plan) -> Result<bool, Fail>
-    requires room { plan.now.k ≤ 255 }
+// Whether this is so of the first word and the last one of the first block of the level of several, and of its last.
+fn plan_is_found(alloc: Global, over: &Over, plan: &Plan, spot: &mut Spot) -> bool
+    requires room { plan.now.k ≤ spot.old.room }
 {
     for block in 0..plan.total().min(4096) {
         let phase = plan.phase_of(block);
         if phase.level == over.level
             && (block == phase.start || block.saturating_add(1) == phase.end)
-            && !ends_are_found(rt, alloc, over, plan, block)?
         {
-            return Ok(false);
+            let last = plan.block_len(block).saturating_sub(1);
+            if !offset_is_found(alloc, over, plan, block, 0, spot)
+                || !offset_is_found(alloc, over, plan, block, last, spot)
+            {
+                return false;
+            }
         }
     }
-    Ok(true)
+    true
 }
 
-// The plan of a code over the field, of one set.
-fn over_plan(rt: &impl Abort, alloc: Global, over: &Over) -> Result<Plan, Fail>
-    ensures room { IfOk result (λ p. p.k ≤ 255) }
+// Whether this is so by a spot of its own.
+fn field_is_found(alloc: Global, over: &Over, plan: &Plan) -> bool
+    requires room { plan.now.k ≤ 255 }
 {
-    let k = over.dimension;
-    assert!(rt; 1 <= k && k <= 255 && 2 <= over.q && over.q <= 16);
-    Ok(Plan::build(alloc, k, over.q, 1)?)
+    match Spot::new(alloc, 255) {
+        Ok(mut spot) => plan_is_found(alloc, over, plan, &mut spot),
+        Err(_) => false,
+    }
 }
 
-// Whether this is so over the field.
-fn is_found(rt: &impl Abort, alloc: Global, over: &Over) -> Result<bool, Fail> {
-    let plan = over_plan(rt, alloc, over)?;
-    field_is_found(rt, alloc, over, &plan)
+// Whether this is so over the field, in a plan of one set.
+fn is_found(alloc: Global, over: &Over) -> bool {
+    let k = over.dimension;
+    if k < 1 || k > 255 || over.q < 2 || over.q > 16 {
+        return false;
+    }
+    match Plan::build(alloc, k, over.q, 1) {
+        Ok(plan) => field_is_found(alloc, over, &plan),
+        Err(_) => false,
+    }
 }
 
 #[test]
-fn words_at_the_ends_of_blocks_are_found(rt: HostRuntime) -> Result<(), Fail> {
-    for over in &CHARACTERISTIC_2 {
-        assert!(rt; is_found(&rt, rt.alloc(), over)?, "{}", over.q);
+fn words_at_the_ends_of_blocks_are_found(rt: HostRuntime) {
+    for over in &FIELDS {
+        assert!(rt; is_found(rt.alloc(), over), "{}", over.q);
     }
-    for over in &CHARACTERISTIC_3 {
-        assert!(rt; is_found(&rt, rt.alloc(), over)?, "{}", over.q);
-    }
-    for over in &OTHER_PRIMES {
-        assert!(rt; is_found(&rt, rt.alloc(), over)?, "{}", over.q);
-    }
-    Ok(())
 }

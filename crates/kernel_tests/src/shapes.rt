@@ -1,11 +1,9 @@
 //! Codes over each field whose rows a rule makes.
-use lc_code::Code;
+use lc_code::{Code, CodeRefusal};
 use lc_field::{Field, NoMemory};
 use lc_vec::Word;
 use std::alloc::Global;
-use std::process::Abort;
-use std::test::Fail;
-use test_rows::are_words;
+use test_rows::code_of;
 
 // What the columns after an identity matrix are: numbers of a sequence; such numbers in columns 0, 1, 31 and 63 of each
 // 64 and in the last one, and else zero; or nonzero multiples of the columns of the identity matrix.
@@ -80,28 +78,20 @@ pub(crate) fn rows(alloc: Global, field: &Field, shape: &Shape) -> Result<Vec<Wo
     Ok(words)
 }
 
-// The code of rows that are seen to be words of n symbols.
-pub(crate) fn code_over(
-    rt: &impl Abort,
-    alloc: Global,
-    field: &Field,
-    n: usize,
-    words: &[Word],
-) -> Result<Code, Fail> {
-    assert!(rt; field.is_symbol() && 1 <= n && n <= 255 && are_words(field, n, words));
-    Ok(Code::from_rows(alloc, field, n, words)?)
-}
-
-// The code of a shape over a field.
-fn shaped_over(rt: &impl Abort, alloc: Global, field: &Field, shape: &Shape) -> Result<Code, Fail> {
-    let words = rows(alloc, field, shape)?;
-    code_over(rt, alloc, field, shape.length, &words)
+// The rows of a shape over q elements.
+fn rows_over(alloc: Global, q: u64, shape: &Shape) -> Result<Vec<Word>, NoMemory> {
+    match Field::of(alloc, q) {
+        Ok(field) => rows(alloc, &field, shape),
+        Err(_refusal) => Err(NoMemory),
+    }
 }
 
 // The code of this shape over q elements.
-pub(crate) fn shaped(rt: &impl Abort, alloc: Global, q: u64, shape: &Shape) -> Result<Code, Fail> {
-    let field = Field::of(alloc, q)?;
-    shaped_over(rt, alloc, &field, shape)
+pub(crate) fn shaped(alloc: Global, q: u64, shape: &Shape) -> Result<Code, CodeRefusal> {
+    match rows_over(alloc, q, shape) {
+        Ok(words) => code_of(alloc, q, shape.length, &words),
+        Err(NoMemory) => Err(CodeRefusal::NoMemory),
+    }
 }
 
 // A field, a dimension at which all messages are few, one at which a level has several blocks, the first such level, and what the
@@ -114,7 +104,8 @@ pub(crate) struct Over {
     pub(crate) columns: Columns,
 }
 
-pub(crate) static CHARACTERISTIC_2: [Over; 4] = [
+// In characteristic 2, in characteristic 3, and over other primes.
+pub(crate) static FIELDS: [Over; 10] = [
     Over {
         q: 2,
         small: 8,
@@ -143,9 +134,6 @@ pub(crate) static CHARACTERISTIC_2: [Over; 4] = [
         level: 4,
         columns: Columns::Sparse,
     },
-];
-
-pub(crate) static CHARACTERISTIC_3: [Over; 2] = [
     Over {
         q: 3,
         small: 5,
@@ -160,9 +148,6 @@ pub(crate) static CHARACTERISTIC_3: [Over; 2] = [
         level: 4,
         columns: Columns::Sparse,
     },
-];
-
-pub(crate) static OTHER_PRIMES: [Over; 4] = [
     Over {
         q: 5,
         small: 4,

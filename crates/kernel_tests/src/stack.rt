@@ -13,8 +13,6 @@ use lc_infoset::Sets;
 use lc_kernel::Stack;
 use lc_place::{Plan, Spot};
 use std::alloc::Global;
-use std::process::Abort;
-use std::test::Fail;
 
 // Whether the stack's word is this one.
 fn has_word(sets: &Sets, stack: &Stack, word: &[u8]) -> bool
@@ -109,56 +107,47 @@ fn spot_walks(
     most: u64,
     stack: &mut Stack,
     spot: &mut Spot,
-) -> Result<bool, Fail>
+) -> bool
     requires plan { IsPlanOf plan.now sets.now }
     requires stack { stack.old.code ≡ sets.now }
     requires room { plan.now.k ≤ spot.old.room }
 {
-    let mut word = vec![in alloc; 0u8; sets.length()]?;
-    Ok(are_walked(sets, plan, most, stack, spot, &mut word))
+    match vec![in alloc; 0u8; sets.length()] {
+        Ok(mut word) => are_walked(sets, plan, most, stack, spot, &mut word),
+        Err(_) => false,
+    }
 }
 
 // Whether this is so by a spot of its own.
-fn stack_walks(
-    alloc: Global,
-    sets: &Sets,
-    plan: &Plan,
-    most: u64,
-    stack: &mut Stack,
-) -> Result<bool, Fail>
+fn stack_walks(alloc: Global, sets: &Sets, plan: &Plan, most: u64, stack: &mut Stack) -> bool
     requires plan { IsPlanOf plan.now sets.now }
     requires stack { stack.old.code ≡ sets.now }
 {
-    let mut spot = Spot::new(alloc, sets.dimension())?;
-    spot_walks(alloc, sets, plan, most, stack, &mut spot)
+    match Spot::new(alloc, sets.dimension()) {
+        Ok(mut spot) => spot_walks(alloc, sets, plan, most, stack, &mut spot),
+        Err(_) => false,
+    }
 }
 
 // Whether this is so for another stack, which shares the multiples of the first.
-fn another_walks(
-    alloc: Global,
-    sets: &Sets,
-    plan: &Plan,
-    most: u64,
-    first: &Stack,
-) -> Result<bool, Fail>
+fn another_walks(alloc: Global, sets: &Sets, plan: &Plan, most: u64, first: &Stack) -> bool
     requires plan { IsPlanOf plan.now sets.now }
     requires stack { first.now.code ≡ sets.now }
 {
-    let mut stack = first.another(alloc)?;
-    stack_walks(alloc, sets, plan, most, &mut stack)
+    match first.another(alloc) {
+        Ok(mut stack) => stack_walks(alloc, sets, plan, most, &mut stack),
+        Err(_) => false,
+    }
 }
 
 // Whether a stack walks through the first blocks.
-pub(crate) fn blocks_are_walked(
-    alloc: Global,
-    sets: &Sets,
-    plan: &Plan,
-    most: u64,
-) -> Result<bool, Fail>
+pub(crate) fn blocks_are_walked(alloc: Global, sets: &Sets, plan: &Plan, most: u64) -> bool
     requires plan { IsPlanOf plan.now sets.now }
 {
-    let first = Stack::new(alloc, sets)?;
-    another_walks(alloc, sets, plan, most, &first)
+    match Stack::new(alloc, sets) {
+        Ok(first) => another_walks(alloc, sets, plan, most, &first),
+        Err(_) => false,
+    }
 }
 
 // Fields, with lengths and dimensions of codes, whose first blocks are walked.
@@ -182,17 +171,16 @@ static WALKED: [(u64, usize, usize, u64); 16] = [
 ];
 
 #[test]
-fn stacks_walk_through_blocks(rt: HostRuntime) -> Result<(), Fail> {
+fn stacks_walk_through_blocks(rt: HostRuntime) {
     for row in &WALKED {
         let shape = Shape {
             length: row.1,
             dimension: row.2,
             columns: Columns::Dense,
         };
-        let walked = shape_does(&rt, rt.alloc(), row.0, &shape, Task::Walk(row.3))?;
+        let walked = shape_does(rt.alloc(), row.0, &shape, Task::Walk(row.3));
         assert!(rt; walked, "{} {}", row.0, row.1);
     }
-    Ok(())
 }
 
 // How many sums the steps of a level make again: of level 2 over 2 elements with four rows, and over 3 elements with two.
@@ -219,28 +207,27 @@ fn makes(sets: &Sets, plan: &Plan, block: u64, stack: &mut Stack, made: &[Option
 }
 
 // Whether this is so of the first block of level 2, which comes after one for each set.
-pub(crate) fn steps_make(
-    alloc: Global,
-    sets: &Sets,
-    plan: &Plan,
-    made: &[Option<usize>],
-) -> Result<bool, Fail>
+pub(crate) fn steps_make(alloc: Global, sets: &Sets, plan: &Plan, made: &[Option<usize>]) -> bool
     requires plan { IsPlanOf plan.now sets.now }
 {
-    let mut stack = Stack::new(alloc, sets)?;
-    Ok(makes(sets, plan, sets.count() as u64, &mut stack, made))
+    match Stack::new(alloc, sets) {
+        Ok(mut stack) => makes(sets, plan, sets.count() as u64, &mut stack, made),
+        Err(_) => false,
+    }
 }
 
 #[test]
-fn steps_make_sums_again(rt: HostRuntime) -> Result<(), Fail> {
+fn steps_make_sums_again(rt: HostRuntime) {
     for row in &MADE {
         let shape = Shape {
             length: row.1.saturating_add(3),
             dimension: row.1,
             columns: Columns::Dense,
         };
-        let right = shape_does(&rt, rt.alloc(), row.0, &shape, Task::Made(row.2))?;
-        assert!(rt; right, "{}", row.0);
+        assert!(rt;
+            shape_does(rt.alloc(), row.0, &shape, Task::Made(row.2)),
+            "{}",
+            row.0
+        );
     }
-    Ok(())
 }

@@ -7,12 +7,10 @@ use crate::kernel::{has_words, words_are_at_ends};
 use crate::planted::{Planted, is_least};
 use crate::shapes::{Shape, shaped};
 use crate::stack::{blocks_are_walked, steps_make};
-use lc_code::Code;
+use lc_code::{Code, CodeRefusal};
 use lc_infoset::Sets;
-use lc_place::Plan;
+use lc_place::{NoMemory, Plan};
 use std::alloc::Global;
-use std::process::Abort;
-use std::test::Fail;
 
 // A question: whether blocks have the least values of a plain scan, whether the first blocks are walked through by a stack, how
 // many sums a stack makes again, whether the words of a table are at their places, whether the words at the ends of the blocks of a
@@ -27,20 +25,22 @@ pub(crate) enum Task {
     Found(Planted),
 }
 
-// The information sets of a code that is seen to have words.
+// The information sets of a code, if it has words.
 #[tactic(auto, using(lc_algebra::proofs::ReducedLaws::reduced_independent))]
-fn sets_of(rt: &impl Abort, alloc: Global, code: &Code) -> Result<Sets, Fail> {
-    assert!(rt;
-        1 <= code.dimension()
-            && code.field().is_symbol()
-            && 1 <= code.length()
-            && code.length() <= 255
-    );
-    Ok(Sets::build(alloc, code.matrix())?)
+pub(crate) fn sets_of(alloc: Global, code: &Code) -> Option<Sets> {
+    let _symbol = code.field();
+    let _long = code.length();
+    if code.dimension() == 0 {
+        return None;
+    }
+    match Sets::build(alloc, code.matrix()) {
+        Ok(sets) => Some(sets),
+        Err(_) => None,
+    }
 }
 
 // The plan of all sets of a code.
-fn plan_of(alloc: Global, sets: &Sets) -> Result<Plan, Fail>
+fn plan_of(alloc: Global, sets: &Sets) -> Result<Plan, NoMemory>
     ensures is { IfOk result (λ p. IsPlanOf p sets.now) }
 {
     let _n = sets.length();
@@ -53,7 +53,7 @@ fn plan_of(alloc: Global, sets: &Sets) -> Result<Plan, Fail>
 }
 
 // Whether it is so for the plan.
-fn plan_does(alloc: Global, sets: &Sets, plan: &Plan, task: Task) -> Result<bool, Fail>
+fn plan_does(alloc: Global, sets: &Sets, plan: &Plan, task: Task) -> bool
     requires plan { IsPlanOf plan.now sets.now }
 {
     match task {
@@ -67,30 +67,30 @@ fn plan_does(alloc: Global, sets: &Sets, plan: &Plan, task: Task) -> Result<bool
 }
 
 // Whether it is so for the sets.
-fn sets_do(alloc: Global, sets: &Sets, task: Task) -> Result<bool, Fail> {
-    let plan = plan_of(alloc, sets)?;
-    plan_does(alloc, sets, &plan, task)
+fn sets_do(alloc: Global, sets: &Sets, task: Task) -> bool {
+    match plan_of(alloc, sets) {
+        Ok(plan) => plan_does(alloc, sets, &plan, task),
+        Err(_) => false,
+    }
 }
 
 // Whether it is so for a code.
-pub(crate) fn code_does(
-    rt: &impl Abort,
-    alloc: Global,
-    code: &Code,
-    task: Task,
-) -> Result<bool, Fail> {
-    let sets = sets_of(rt, alloc, code)?;
-    sets_do(alloc, &sets, task)
+pub(crate) fn code_does(alloc: Global, code: &Code, task: Task) -> bool {
+    match sets_of(alloc, code) {
+        Some(sets) => sets_do(alloc, &sets, task),
+        None => false,
+    }
+}
+
+// Whether there is a code, and it is so for it.
+pub(crate) fn made_does(alloc: Global, code: Result<Code, CodeRefusal>, task: Task) -> bool {
+    match code {
+        Ok(code) => code_does(alloc, &code, task),
+        Err(_) => false,
+    }
 }
 
 // Whether it is so for the code of a shape over q elements.
-pub(crate) fn shape_does(
-    rt: &impl Abort,
-    alloc: Global,
-    q: u64,
-    shape: &Shape,
-    task: Task,
-) -> Result<bool, Fail> {
-    let code = shaped(rt, alloc, q, shape)?;
-    code_does(rt, alloc, &code, task)
+pub(crate) fn shape_does(alloc: Global, q: u64, shape: &Shape, task: Task) -> bool {
+    made_does(alloc, shaped(alloc, q, shape), task)
 }
