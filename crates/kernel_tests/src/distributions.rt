@@ -103,7 +103,10 @@ fn workers_count<R: Threads + Sync>(
         return false;
     };
     match distribution(rt, alloc, code, workers) {
-        Ok(counts) => wanted.get(..counts.len()) == Some(counts.as_slice()),
+        Ok(counts) => {
+            counts.len() == code.length().saturating_add(1)
+                && wanted.get(..counts.len()) == Some(counts.as_slice())
+        }
         Err(_) => false,
     }
 }
