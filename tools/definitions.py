@@ -1,5 +1,5 @@
 #!/usr/bin/env python3
-"""Lists what must be believed: the definitions that each public clause of the top call and of the laws rests on.
+"""Lists what must be believed: the definitions that each clause of the top calls and of the laws rests on.
 
     tools/definitions.py                 the page docs/BELIEVED.md, on standard output
     tools/definitions.py NAME [CLAUSE]   everything that the clauses of one public function, or one of them, rest on
@@ -13,7 +13,7 @@ import re
 import sys
 
 ROOT = os.path.dirname(os.path.dirname(os.path.abspath(__file__)))
-TOP = [("lc_session", "run_session"), ("lc_share", "run_part"), ("lc_join", "join_parts")]
+TOP = [("lc_session", "run_session"), ("lc_share", "run_part"), ("lc_join", "join_parts"), ("codes", "program")]
 NAME = re.compile(r"[A-Za-z_][A-Za-z_0-9]*")
 STARTS = re.compile(r"^(?:unfoldable |abbrev )?(?:pub )?(?:(record|data) )?([A-Za-z_][A-Za-z_0-9]*)\b")
 
@@ -247,7 +247,7 @@ class Sources:
         return (listed.index((crate, module)), self.modules[(crate, module)].definitions[name].order)
 
     def clauses(self):
-        """(crate, function, is_law, name, text, words) for each public function with clauses."""
+        """(crate, function, is_law, name, text, words) for each function with clauses that others call."""
         found = []
         for crate in self.crates:
             folder = os.path.join(ROOT, "crates", crate, "src")
@@ -261,11 +261,11 @@ class Sources:
         for line in text.split("\n"):
             if line.strip().startswith("ghost use "):
                 add_import(line, imports, aliases)
-        for start in re.finditer(r"^ *pub fn (\w+)", text, re.M):
+        for start in re.finditer(r"^ *pub(?:\(crate\))? fn (\w+)", text, re.M):
             rest = text[start.start():]
             brace = re.search(r"^ *\{", rest, re.M)
             end = brace.start() if brace else len(rest)
-            stop = re.search(r"^ *pub fn ", rest[10:], re.M)
+            stop = re.search(r"^ *pub(?:\(crate\))? fn ", rest[10:], re.M)
             if stop:
                 end = min(end, stop.start() + 10)
             is_law = bool(re.match(r" *\{ *\n? *\}", rest[end:end + 20]))
@@ -305,8 +305,8 @@ def outside():
 
 def page(sources):
     lines = ["# What must be believed, clause by clause", "",
-             "Made by `tools/definitions.py` from the sources; the repository's own checks compare it. For each public clause of the",
-             "top call and of the laws it lists the definitions that it rests on, in reading order, each once: what an earlier clause",
+             "Made by `tools/definitions.py` from the sources; the repository's own checks compare it. For each clause of the",
+             "top calls and of the laws it lists the definitions that it rests on, in reading order, each once: what an earlier clause",
              "lists is not listed again. `tools/definitions.py NAME CLAUSE` lists all that one clause rests on.",
              "[DEFINITIONS.md](DEFINITIONS.md) says how to read a definition, where each comes from and what evaluates it."]
     lines += outside()

@@ -1,6 +1,8 @@
 //! The watchers of the program.
-ghost use Rattle.std.specs.Prelude.{◌≡◌, ◌++◌, None, OnOk, decimal};
-ghost use Rattle.codes.specs.Lines.{record_line};
+ghost use Rattle.std.specs.Prelude.{◌≡◌, ◌≢◌, ◌++◌, ◌^◌, ◌-◌, None, OnOk, IfOk, decimal};
+ghost use Rattle.std.specs.Io.KnownBytes.{Appends};
+ghost use Rattle.lc_io.specs.Watchers.{AnswersFrom, HearsUnlessLeft, pauses_after};
+ghost use Rattle.codes.specs.Lines.{record_line, IsNotWritten};
 
 use itoa::Buffer;
 use lc_io::{Advice, NoMemory, Record, Watcher, WriterSink, write_whole};
@@ -44,7 +46,9 @@ pub(crate) struct LineWatcher<W: Write + Drop> {
 
 impl<W: Write + Drop> LineWatcher<W> {
     /// A watcher that writes each line at once. It takes the room for its lines here, and none later.
-    pub(crate) fn new(alloc: Global, out: W) -> Result<LineWatcher<W>, NoMemory> {
+    pub(crate) fn new(alloc: Global, out: W) -> Result<LineWatcher<W>, NoMemory>
+        ensures is { IfOk result (λ w. w.sink ≡ record { inner = out; faults = 0 }) }
+    {
         let line = Vec::with_capacity(alloc, LONGEST_LINE)?;
         let sink = WriterSink::new(out);
         Ok(LineWatcher { line, sink })
@@ -60,7 +64,17 @@ impl<W: Write + Drop> Watcher for LineWatcher<W> {
 
     ghost pauses = { λ w. 0 };
 
-    fn told(&mut self, note: &Record) -> Advice {
+    fn told(&mut self, note: &Record) -> Advice
+        ensures coming { AnswersFrom None result None }
+        ensures heard { HearsUnlessLeft None note.now result None }
+        ensures pauses { 0 ≡ pauses_after 0 result }
+        ensures written { result ≡ Advice.Go →
+            Appends (W.contents self.old.sink.inner) (W.contents self.new.sink.inner) (record_line note.now)
+            × (self.new.sink.faults ≡ self.old.sink.faults) }
+        ensures left { result ≡ Advice.Leave →
+            IsNotWritten (W.contents self.old.sink.inner) (W.contents self.new.sink.inner) self.old.sink.faults self.new.sink.faults
+            (record_line note.now) }
+    {
         if put_line(&mut self.line, note).is_err() {
             return Advice::Leave;
         }
@@ -87,7 +101,9 @@ const STOP_FILE: &str = "codes.stop";
 
 impl<R: Files + Drop> StopWatcher<R> {
     /// A watcher that hasn't paused yet.
-    pub(crate) fn new(rt: R) -> StopWatcher<R> {
+    pub(crate) fn new(rt: R) -> StopWatcher<R>
+        ensures is { result.pauses ≡ 0 }
+    {
         StopWatcher { rt, pauses: 0 }
     }
 }
@@ -101,7 +117,12 @@ impl<R: Files + Drop> Watcher for StopWatcher<R> {
 
     ghost pauses = { λ w. w.pauses };
 
-    fn told(&mut self, _note: &Record) -> Advice {
+    fn told(&mut self, _note: &Record) -> Advice
+        ensures coming { AnswersFrom None result None }
+        ensures heard { HearsUnlessLeft None _note.now result None }
+        ensures pauses { self.new.pauses ≡ pauses_after self.old.pauses result }
+        ensures stays { result ≢ Advice.Leave }
+    {
         if self.pauses < u64::MAX && fs::metadata(&self.rt, STOP_FILE).is_ok() {
             self.pauses += 1;
             return Advice::Pause;

@@ -1,0 +1,2 @@
+mod ProgramExamples
+mod SessionLaws
