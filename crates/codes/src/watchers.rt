@@ -72,8 +72,8 @@ impl<W: Write + Drop> Watcher for LineWatcher<W> {
             Appends (W.contents self.old.sink.inner) (W.contents self.new.sink.inner) (record_line note.now)
             × (self.new.sink.faults ≡ self.old.sink.faults) }
         ensures left { result ≡ Advice.Leave →
-            IsNotWritten (W.contents self.old.sink.inner) (W.contents self.new.sink.inner) self.old.sink.faults self.new.sink.faults
-            (record_line note.now) }
+            IsNotWritten (W.contents self.old.sink.inner) (W.contents self.new.sink.inner)
+            self.old.sink.faults self.new.sink.faults (record_line note.now) }
     {
         if put_line(&mut self.line, note).is_err() {
             return Advice::Leave;
