@@ -1,3 +1,4 @@
 pub mod Lines
 pub mod Endings
+pub mod CommandLines
 pub mod Program

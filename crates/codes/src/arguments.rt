@@ -1,6 +1,10 @@
 //! The arguments of the command line.
-ghost use Rattle.std.specs.Prelude.{◌≡◌, IfOk, drop};
+ghost use Rattle.std.specs.Prelude.{◌≡◌, ◌≢◌, IfOk, IsErrAnd, drop};
 ghost use Rattle.std.specs.Vec.Iter.{into_iter_items};
+ghost use Rattle.std.specs.IoError.{error_kind};
+ghost use Rattle.std.specs.declared.io.ErrorKind.TheVariants as kind;
+ghost use Rattle.lc_arguments.specs.Asked.{words_of};
+ghost use Rattle.codes.specs.CommandLines.{IsLineOf};
 
 use lc_io::NoMemory;
 use std::alloc::Global;
@@ -31,14 +35,23 @@ fn after_name(alloc: Global, mut all: Args) -> Result<Vec<String>, NoMemory>
     Ok(words)
 }
 
-/// Reads the command line.
-pub(crate) fn command_line<R: Env + AllocGlobal>(rt: &R) -> CommandLine {
-    match env::args(rt) {
-        Ok(all) => match after_name(rt.alloc(), all) {
+// The command line of the words that the library gives, the program's name first.
+fn read_line(alloc: Global, read: io::Result<Args>) -> CommandLine
+    ensures words { IfOk read (λ all. IsLineOf (words_of (drop 1 (into_iter_items all))) result) }
+    ensures full { IsErrAnd read (λ e. error_kind e ≡ kind.OutOfMemory) → result ≡ CommandLine.NoMemory }
+    ensures unread { IsErrAnd read (λ e. error_kind e ≢ kind.OutOfMemory) → result ≡ CommandLine.NotUtf8 }
+{
+    match read {
+        Ok(all) => match after_name(alloc, all) {
             Ok(words) => CommandLine::Words(words),
             Err(NoMemory) => CommandLine::NoMemory,
         },
         Err(error) if error.kind() == io::ErrorKind::OutOfMemory => CommandLine::NoMemory,
         Err(_) => CommandLine::NotUtf8,
     }
+}
+
+/// Reads the command line.
+pub(crate) fn command_line<R: Env + AllocGlobal>(rt: &R) -> CommandLine {
+    read_line(rt.alloc(), env::args(rt))
 }
