@@ -158,16 +158,20 @@ def refused_in_turn(checks, session, name, words, given, slots=(b"", b""), after
     tried = checks.numbers(growths)
     seen = Counter()
     for last in (None, FOREVER):
+        has_begun = False
         for number in tried:
             session.put(slots)
             got = session.run(words, given, number, last or number)
             seen[got[0]] += 1
             what = "%s, growth %d%s" % (name, number, " and all after it" if last else "")
-            right = got[:2] == (status, text) and got[2] in (line, b"")
+            right = got[:3] == (status, text, line)
             refusals = {NO_MEMORY: b"codes: no memory\n"}
             if words[0] == "resume":
                 refusals[VAULT_FAULT] = b"codes: vault fault\n"
-            wanting = got[0] in refusals and got[1] == b"" and got[2] in (refusals[got[0]], b"")
+            # a line takes no memory; there is none where the program could not begin, which is so of the first growths alone
+            silent = got[0] == NO_MEMORY and got[2] == b"" and got[3] == 0 and not has_begun
+            wanting = got[0] in refusals and got[1] == b"" and (got[2] == refusals[got[0]] or silent)
+            has_begun = has_begun or not (silent or right)
             checks.that(right or wanting, "%s: status %d, %r, %r" % (what, got[0], got[1][-60:], got[2]))
             if keeps:
                 after(checks, session, what, given, slots, got)

@@ -1,2 +1,1 @@
 mod ProgramExamples
-mod SessionLaws

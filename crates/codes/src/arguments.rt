@@ -9,8 +9,7 @@ ghost use Rattle.codes.specs.CommandLines.{IsLineOf};
 use lc_io::NoMemory;
 use std::alloc::Global;
 use std::env::Args;
-use std::rt::Env;
-use std::{env, io};
+use std::io;
 
 /// What is known of the command line.
 #[derive(Drop)]
@@ -35,8 +34,8 @@ fn after_name(alloc: Global, mut all: Args) -> Result<Vec<String>, NoMemory>
     Ok(words)
 }
 
-// The command line of the words that the library gives, the program's name first.
-fn read_line(alloc: Global, read: io::Result<Args>) -> CommandLine
+/// The command line of the words that the library gives, the program's name first.
+pub(crate) fn read_line(alloc: Global, read: io::Result<Args>) -> CommandLine
     ensures words { IfOk read (λ all. IsLineOf (words_of (drop 1 (into_iter_items all))) result) }
     ensures full { IsErrAnd read (λ e. error_kind e ≡ kind.OutOfMemory) → result ≡ CommandLine.NoMemory }
     ensures unread { IsErrAnd read (λ e. error_kind e ≢ kind.OutOfMemory) → result ≡ CommandLine.NotUtf8 }
@@ -49,9 +48,4 @@ fn read_line(alloc: Global, read: io::Result<Args>) -> CommandLine
         Err(error) if error.kind() == io::ErrorKind::OutOfMemory => CommandLine::NoMemory,
         Err(_) => CommandLine::NotUtf8,
     }
-}
-
-/// Reads the command line.
-pub(crate) fn command_line<R: Env + AllocGlobal>(rt: &R) -> CommandLine {
-    read_line(rt.alloc(), env::args(rt))
 }

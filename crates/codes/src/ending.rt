@@ -1,14 +1,13 @@
 //! How the program ends.
-ghost use Rattle.std.specs.Prelude.{◌≡◌, IfOk};
+ghost use Rattle.std.specs.Prelude.{◌≡◌};
 ghost use Rattle.lc_share.specs.Seen.{ending_of as part_ending};
 ghost use Rattle.lc_join.specs.Seen.{ending_of as join_ending};
 ghost use Rattle.codes.specs.Endings.{joined, number_of, line_of};
 
-use lc_io::NoMemory;
-use lc_join::{JoinStatus, join_line};
-use lc_session::{Status, status_line};
+use lc_arguments::Line;
+use lc_join::JoinStatus;
+use lc_session::Status;
 use lc_share::PartStatus;
-use std::alloc::Global;
 
 /// How the program ends.
 #[derive(Drop)]
@@ -48,18 +47,14 @@ impl Ending {
         }
     }
 
-    /// The line of this ending, for standard error; empty if the whole text was written. Fails if memory runs out.
-    pub(crate) fn line(&self, alloc: Global) -> Result<Vec<u8>, NoMemory>
-        ensures is { IfOk result (λ line. line.items ≡ line_of self.now) }
+    /// The line of this ending, for standard error; empty if the whole text was written.
+    pub(crate) fn line(&self) -> Line
+        ensures is { result.bytes ≡ line_of self.now }
     {
-        let line = match self {
-            Ending::Session(status) => status_line(alloc, status),
-            Ending::Part(status) => join_line(alloc, &as_join(status)),
-            Ending::Join(status) => join_line(alloc, status),
-        };
-        match line {
-            Ok(line) => Ok(line),
-            Err(_) => Err(NoMemory),
+        match self {
+            Ending::Session(status) => status.line(),
+            Ending::Part(status) => as_join(status).line(),
+            Ending::Join(status) => status.line(),
         }
     }
 }

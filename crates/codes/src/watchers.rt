@@ -1,57 +1,44 @@
 //! The watchers of the program.
-ghost use Rattle.std.specs.Prelude.{◌≡◌, ◌≢◌, ◌++◌, ◌^◌, ◌-◌, None, OnOk, IfOk, decimal};
+ghost use Rattle.std.specs.Prelude.{◌≡◌, ◌≢◌, ◌<◌, ◌↔◌, None, IsOk};
 ghost use Rattle.std.specs.Io.KnownBytes.{Appends};
+ghost use Rattle.lc_io.specs.Outside.{AppendsPart, HasRisen};
 ghost use Rattle.lc_io.specs.Watchers.{AnswersFrom, HearsUnlessLeft, pauses_after};
-ghost use Rattle.codes.specs.Lines.{record_line, IsNotWritten};
+ghost use Rattle.codes.specs.Lines.{record_line};
 
-use itoa::Buffer;
-use lc_io::{Advice, NoMemory, Record, Watcher, WriterSink, write_whole};
-use std::alloc::Global;
-use std::fs;
-use std::fs::Files;
+use lc_arguments::{Line, push_numbered};
+use lc_io::{Advice, Record, Watcher, WriterSink, write_whole};
+use std::fs::{Files, Metadata};
 use std::io::Write;
+use std::{fs, io};
 
-// More than the bytes of any line: four numbers of at most twenty digits, and their names.
-const LONGEST_LINE: usize = 128;
-
-// A name and a number in decimal digits.
-fn push_named(line: &mut Vec<u8>, name: &[u8], number: u64) -> Result<(), NoMemory>
-    ensures { OnOk result (line.new.items ≡ line.old.items ++ name.now ++ decimal number) }
-{
-    line.extend_from_slice(name)?;
-    line.extend_from_slice(Buffer::new().format(number).as_bytes())?;
-    Ok(())
-}
-
-// Replaces the line by that of a record.
+// The line of a record.
 #[tactic(auto, unfolding(crate::specs::Lines::record_line))]
-fn put_line(line: &mut Vec<u8>, note: &Record) -> Result<(), NoMemory>
-    ensures { OnOk result (line.new.items ≡ record_line note.now) }
+fn line_of(note: &Record) -> Line
+    ensures is { result.bytes ≡ record_line note.now }
 {
-    line.clear();
-    push_named(line, b"query ", note.query)?;
-    push_named(line, b" blocks ", note.blocks)?;
-    push_named(line, b" bound ", note.bound)?;
-    push_named(line, b" best ", note.best)?;
-    line.extend_from_slice(b"\n")?;
-    Ok(())
+    let mut line = Line::new();
+    push_numbered(&mut line, "query ", note.query);
+    push_numbered(&mut line, " blocks ", note.blocks);
+    push_numbered(&mut line, " bound ", note.bound);
+    push_numbered(&mut line, " best ", note.best);
+    line.push_str("\n");
+    line
 }
 
-/// Writes a line for each record, and leaves after the first write that fails.
+/// Writes a line for each record, and leaves after the first write that fails. It takes no memory.
 #[derive(Drop)]
 pub(crate) struct LineWatcher<W: Write + Drop> {
-    line: Vec<u8>,
     sink: WriterSink<W>,
 }
 
 impl<W: Write + Drop> LineWatcher<W> {
-    /// A watcher that writes each line at once. It takes the room for its lines here, and none later.
-    pub(crate) fn new(alloc: Global, out: W) -> Result<LineWatcher<W>, NoMemory>
-        ensures is { IfOk result (λ w. w.sink ≡ record { inner = out; faults = 0 }) }
+    /// A watcher that writes each line at once.
+    pub(crate) fn new(out: W) -> LineWatcher<W>
+        ensures is { result.sink ≡ record { inner = out; faults = 0 } }
     {
-        let line = Vec::with_capacity(alloc, LONGEST_LINE)?;
-        let sink = WriterSink::new(out);
-        Ok(LineWatcher { line, sink })
+        LineWatcher {
+            sink: WriterSink::new(out),
+        }
     }
 }
 
@@ -72,13 +59,10 @@ impl<W: Write + Drop> Watcher for LineWatcher<W> {
             Appends (W.contents self.old.sink.inner) (W.contents self.new.sink.inner) (record_line note.now)
             × (self.new.sink.faults ≡ self.old.sink.faults) }
         ensures left { result ≡ Advice.Leave →
-            IsNotWritten (W.contents self.old.sink.inner) (W.contents self.new.sink.inner)
-            self.old.sink.faults self.new.sink.faults (record_line note.now) }
+            AppendsPart (W.contents self.old.sink.inner) (W.contents self.new.sink.inner) (record_line note.now)
+            × HasRisen self.old.sink.faults self.new.sink.faults }
     {
-        if put_line(&mut self.line, note).is_err() {
-            return Advice::Leave;
-        }
-        match write_whole(&mut self.sink, &self.line) {
+        match write_whole(&mut self.sink, line_of(note).as_bytes()) {
             Ok(()) => Advice::Go,
             Err(_) => Advice::Leave,
         }
@@ -106,6 +90,19 @@ impl<R: Files + Drop> StopWatcher<R> {
     {
         StopWatcher { rt, pauses: 0 }
     }
+
+    // Pauses if the file was found, and as long as the pauses can be counted.
+    fn advise(&mut self, found: io::Result<Metadata>) -> Advice
+        ensures pauses { self.new.pauses ≡ pauses_after self.old.pauses result }
+        ensures stops { (result ≡ Advice.Pause) ↔ (IsOk found × (self.old.pauses < 18446744073709551615)) }
+        ensures stays { result ≢ Advice.Leave }
+    {
+        if found.is_ok() && self.pauses < u64::MAX {
+            self.pauses += 1;
+            return Advice::Pause;
+        }
+        Advice::Go
+    }
 }
 
 impl<R: Files + Drop> Watcher for StopWatcher<R> {
@@ -123,11 +120,8 @@ impl<R: Files + Drop> Watcher for StopWatcher<R> {
         ensures pauses { self.new.pauses ≡ pauses_after self.old.pauses result }
         ensures stays { result ≢ Advice.Leave }
     {
-        if self.pauses < u64::MAX && fs::metadata(&self.rt, STOP_FILE).is_ok() {
-            self.pauses += 1;
-            return Advice::Pause;
-        }
-        Advice::Go
+        let found = fs::metadata(&self.rt, STOP_FILE);
+        self.advise(found)
     }
 
     fn heard_at(&self, _at: u64) -> Option<Record> {

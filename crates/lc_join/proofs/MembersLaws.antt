@@ -2,7 +2,6 @@
 --   meant_one                a text is one line
 --   meant_part               each part that is read is that of a text
 --   part_meant               the part of each text is read
---   meant_among              so the parts of some texts are among those of more texts
 --   printed_same             and the parts of the same texts are the same
 use Rattle.std.proofs.Common.{◌≡◌, ℕ, ◌+◌, List, [], ◌∷◌, All, Contains, sym, ap, subst, ◌∙◌, ⊎_elim}
 use Rattle.std.specs.List.{concat, slice_split}

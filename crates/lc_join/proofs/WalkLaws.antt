@@ -1,5 +1,5 @@
 -- Parts that are taken until none goes on.
---   pass_more, pass_end, pass_whole      the search after the lines so far, and after all
+--   pass_more, pass_end      the search after the lines so far, and after all
 --   Walked, walked_first, walked_more    what is kept from pass to pass
 --   walked_end                   where a pass changes nothing
 --   pass_grows                   no pass goes back

@@ -11,4 +11,4 @@ mod status;
 mod walk;
 
 pub use session::join_parts;
-pub use status::{JoinStatus, join_line};
+pub use status::JoinStatus;

@@ -1,11 +1,10 @@
 //! How a session of `join` ends.
-ghost use Rattle.std.specs.Prelude.{◌≡◌, ◌++◌, decimal, IfOk, OnOk};
+ghost use Rattle.std.specs.Prelude.{◌≡◌, ◌++◌, codes, decimal};
+ghost use Rattle.lc_session_rules.specs.Endings.{said};
 ghost use Rattle.lc_join.specs.JoinSession.{ending_number, ending_line};
 ghost use Rattle.lc_join.specs.Seen.{ending_of};
 
-use lc_field::NoMemory;
-use lc_json::{push_number, push_text};
-use std::alloc::Global;
+use lc_arguments::{Line, push_numbered, said, usage_line};
 
 /// How a session of `join` ends.
 ///
@@ -32,6 +31,30 @@ pub enum JoinStatus {
     Disagree(u64, u64),
 }
 
+// The line of blocks that are missing.
+fn missing_line(first: u64, last: u64) -> Line
+    ensures is { result.bytes
+        ≡ said (codes "blocks " ++ decimal first ++ codes " to " ++ decimal last ++ codes " are missing") }
+{
+    let mut text = Line::new();
+    push_numbered(&mut text, "blocks ", first);
+    push_numbered(&mut text, " to ", last);
+    text.push_str(" are missing");
+    said(&text)
+}
+
+// The line of two lines that disagree.
+fn disagree_line(one: u64, other: u64) -> Line
+    ensures is { result.bytes
+        ≡ said (codes "lines " ++ decimal one ++ codes " and " ++ decimal other ++ codes " disagree") }
+{
+    let mut text = Line::new();
+    push_numbered(&mut text, "lines ", one);
+    push_numbered(&mut text, " and ", other);
+    text.push_str(" disagree");
+    said(&text)
+}
+
 impl JoinStatus {
     /// The number with which the program ends: 0 if the checkpoint was written; 2, 4, 5, 7 and 12 as for other sessions; 14 if
     /// blocks are missing, 15 if no line is that of a part, 16 if two lines disagree.
@@ -51,62 +74,23 @@ impl JoinStatus {
             JoinStatus::Disagree(_, _) => 16,
         }
     }
-}
-
-// The line of an argument that is refused.
-#[tactic(auto, unfolding(crate::proofs::Opened::lines_of_endings))]
-fn usage_line(alloc: Global, index: u64) -> Result<Vec<u8>, NoMemory>
-    ensures { IfOk result (λ line. line.items ≡ ending_line (ending_of (JoinStatus.Usage index))) }
-{
-    let mut line = Vec::from_slice(alloc, b"codes: word ")?;
-    push_number(&mut line, index)?;
-    push_text(&mut line, b" refused\n")?;
-    Ok(line)
-}
-
-// The line of blocks that are missing.
-#[tactic(auto, unfolding(crate::proofs::Opened::lines_of_endings))]
-fn missing_line(alloc: Global, first: u64, last: u64) -> Result<Vec<u8>, NoMemory>
-    ensures { IfOk result (λ line. line.items ≡ ending_line (ending_of (JoinStatus.Missing first last))) }
-{
-    let mut line = Vec::from_slice(alloc, b"codes: blocks ")?;
-    push_number(&mut line, first)?;
-    push_text(&mut line, b" to ")?;
-    push_number(&mut line, last)?;
-    push_text(&mut line, b" are missing\n")?;
-    Ok(line)
-}
-
-// The line of two lines that disagree.
-#[tactic(auto, unfolding(crate::proofs::Opened::lines_of_endings))]
-fn disagree_line(alloc: Global, one: u64, other: u64) -> Result<Vec<u8>, NoMemory>
-    ensures { IfOk result (λ line. line.items ≡ ending_line (ending_of (JoinStatus.Disagree one other))) }
-{
-    let mut line = Vec::from_slice(alloc, b"codes: lines ")?;
-    push_number(&mut line, one)?;
-    push_text(&mut line, b" and ")?;
-    push_number(&mut line, other)?;
-    push_text(&mut line, b" disagree\n")?;
-    Ok(line)
-}
-
-/// The line of a status, for standard error: nothing for `Printed`; else, with a newline after it, `codes: ` and one of these:
-/// `word N refused`, N being the index of the argument from 0, `source fault`, `sink fault`, `no memory`, `input too long`,
-/// `blocks A to B are missing`, `no such part`, or `lines I and J disagree`. Fails if memory runs out.
-#[tactic(auto, unfolding(crate::proofs::Opened::lines_of_endings))]
-pub fn join_line(alloc: Global, status: &JoinStatus) -> Result<Vec<u8>, NoMemory>
-    ensures { IfOk result (λ line. line.items ≡ ending_line (ending_of status.now)) }
-{
-    let line: &[u8] = match status {
-        JoinStatus::Printed => b"",
-        JoinStatus::Usage(index) => return usage_line(alloc, *index as u64),
-        JoinStatus::SourceFault => b"codes: source fault\n",
-        JoinStatus::SinkFault => b"codes: sink fault\n",
-        JoinStatus::NoMemory => b"codes: no memory\n",
-        JoinStatus::TooLong => b"codes: input too long\n",
-        JoinStatus::Missing(first, last) => return missing_line(alloc, *first, *last),
-        JoinStatus::NoPart => b"codes: no such part\n",
-        JoinStatus::Disagree(one, other) => return disagree_line(alloc, *one, *other),
-    };
-    Ok(Vec::from_slice(alloc, line)?)
+    /// The line of a status, for standard error: nothing for `Printed`; else, with a newline after it, `codes: ` and one of these:
+    /// `word N refused`, N being the index of the argument from 0, `source fault`, `sink fault`, `no memory`, `input too long`,
+    /// `blocks A to B are missing`, `no such part`, or `lines I and J disagree`.
+    #[tactic(auto, unfolding(crate::specs::JoinSession::ending_line))]
+    pub fn line(&self) -> Line
+        ensures is { result.bytes ≡ ending_line (ending_of self.now) }
+    {
+        match self {
+            JoinStatus::Printed => Line::new(),
+            JoinStatus::Usage(index) => usage_line(*index),
+            JoinStatus::SourceFault => said("source fault"),
+            JoinStatus::SinkFault => said("sink fault"),
+            JoinStatus::NoMemory => said("no memory"),
+            JoinStatus::TooLong => said("input too long"),
+            JoinStatus::Missing(first, last) => missing_line(*first, *last),
+            JoinStatus::NoPart => said("no such part"),
+            JoinStatus::Disagree(one, other) => disagree_line(*one, *other),
+        }
+    }
 }

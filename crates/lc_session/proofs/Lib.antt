@@ -6,4 +6,3 @@ mod ScriptEnds
 mod ScriptSessions
 mod SummarySessions
 mod CheckSessions
-mod Opened

@@ -21,8 +21,15 @@ use lc_rounds::{Crew, Surroundings};
 use std::alloc::Global;
 use std::thread::Threads;
 
-// A session over any watchers.
-fn session<R: Threads + Sync, S: Source, K: Sink, V: Vault, W: Watcher, G: Gate + Sync>(
+/// Runs a session as `run_session` does, over watchers of any type; they and the vault come as one struct.
+pub fn run_session_over<
+    R: Threads + Sync,
+    S: Source,
+    K: Sink,
+    V: Vault,
+    W: Watcher,
+    G: Gate + Sync,
+>(
     rt: &R,
     alloc: Global,
     arguments: &[String],
@@ -103,5 +110,5 @@ pub fn run_session<R: Threads + Sync, S: Source, K: Sink, V: Vault, G: Gate + Sy
         asked.command ≡ line.run → S.rest source.old ≡ Some [] → (told : ℕ) → result ≢ Status.NoMemory told }
 {
     let surroundings = Surroundings { vault, watchers };
-    session(rt, alloc, arguments, source, sink, surroundings, gate)
+    run_session_over(rt, alloc, arguments, source, sink, surroundings, gate)
 }

@@ -1,9 +1,9 @@
 //! How a session ends.
-ghost use Rattle.std.specs.Prelude.{◌≡◌, ◌++◌, IfOk, OnOk, decimal};
-ghost use Rattle.lc_session_rules.specs.Endings.{ending_number, ending_line};
+ghost use Rattle.std.specs.Prelude.{◌≡◌, ◌++◌, IfOk, codes, decimal};
+ghost use Rattle.lc_session_rules.specs.Endings.{ending_number, ending_line, said};
 ghost use Rattle.lc_session.specs.Ending.{ending_of};
 
-use itoa::Buffer;
+use lc_arguments::{Line, push_numbered, said, usage_line};
 use lc_checker::Reason;
 use lc_field::NoMemory;
 use std::alloc::Global;
@@ -64,6 +64,25 @@ pub enum Status {
     },
 }
 
+// The line of a pause at these blocks of a query.
+fn pause_line(query: u64, blocks: u64) -> Line
+    ensures is { result.bytes ≡ said (codes "paused at query " ++ decimal query ++ codes " blocks " ++ decimal blocks) }
+{
+    let mut text = Line::new();
+    push_numbered(&mut text, "paused at query ", query);
+    push_numbered(&mut text, " blocks ", blocks);
+    said(&text)
+}
+
+// The line of a record that doesn't fit this query.
+fn unfit_line(query: u64) -> Line
+    ensures is { result.bytes ≡ said (codes "checkpoint does not fit query " ++ decimal query) }
+{
+    let mut text = Line::new();
+    push_numbered(&mut text, "checkpoint does not fit query ", query);
+    said(&text)
+}
+
 impl Status {
     /// The number with which the program ends: that of `Done`, and 2 to 13 for the others in their order.
     #[tactic(auto, unfolding(lc_session_rules::specs::Endings::ending_number))]
@@ -86,76 +105,36 @@ impl Status {
             Status::Unfit { .. } => 13,
         }
     }
+    /// The line of a status, for standard error: nothing for `Done`; else, with a newline after it,
+    /// `codes: ` and one of these: `word N refused`, N being the index of the argument from 0, `paused at
+    /// query Q blocks L`, `source fault`, `sink fault`, `vault fault`, `no memory`, `no checkpoint`,
+    /// `damaged checkpoint`, `checkpoint of another script or budget`, `rejected`, `input too long` or
+    /// `checkpoint does not fit query Q`.
+    #[tactic(auto, unfolding(lc_session_rules::specs::Endings::ending_line))]
+    pub fn line(&self) -> Line
+        ensures is { result.bytes ≡ ending_line (ending_of self.now) }
+    {
+        match self {
+            Status::Done(_) => Line::new(),
+            Status::Usage(index) => usage_line(*index),
+            Status::Paused { query, blocks } => pause_line(*query, *blocks),
+            Status::SourceFault => said("source fault"),
+            Status::SinkFault => said("sink fault"),
+            Status::VaultFault { .. } => said("vault fault"),
+            Status::NoMemory { .. } => said("no memory"),
+            Status::NoCheckpoint => said("no checkpoint"),
+            Status::DamagedCheckpoint => said("damaged checkpoint"),
+            Status::OtherScript { .. } => said("checkpoint of another script or budget"),
+            Status::Rejected(_) => said("rejected"),
+            Status::TooLong => said("input too long"),
+            Status::Unfit { query, .. } => unfit_line(*query),
+        }
+    }
 }
 
-// The number in decimal digits.
-fn push_number(text: &mut Vec<u8>, number: u64) -> Result<(), NoMemory>
-    ensures { OnOk result (text.new.items ≡ text.old.items ++ decimal number) }
-{
-    text.extend_from_slice(Buffer::new().format(number).as_bytes())?;
-    Ok(())
-}
-
-// The line of the word with this index.
-#[tactic(auto, unfolding(crate::proofs::Opened::lines_of_endings))]
-fn usage_line(alloc: Global, index: u64) -> Result<Vec<u8>, NoMemory>
-    ensures { IfOk result (λ line. line.items ≡ ending_line (ending_of (Status.Usage index))) }
-{
-    let mut line = Vec::from_slice(alloc, b"codes: word ")?;
-    push_number(&mut line, index)?;
-    line.extend_from_slice(b" refused\n")?;
-    Ok(line)
-}
-
-// The line of a pause at these blocks of a query.
-#[tactic(auto, unfolding(crate::proofs::Opened::lines_of_endings))]
-fn pause_line(alloc: Global, query: u64, blocks: u64) -> Result<Vec<u8>, NoMemory>
-    ensures { IfOk result (λ line. line.items ≡ ending_line (ending_of (Status.Paused query blocks))) }
-{
-    let mut line = Vec::from_slice(alloc, b"codes: paused at query ")?;
-    push_number(&mut line, query)?;
-    line.extend_from_slice(b" blocks ")?;
-    push_number(&mut line, blocks)?;
-    line.extend_from_slice(b"\n")?;
-    Ok(line)
-}
-
-// The line of a record that doesn't fit this query.
-#[tactic(auto, unfolding(crate::proofs::Opened::lines_of_endings))]
-fn unfit_line(alloc: Global, query: u64, _told: u64, _found: u64) -> Result<Vec<u8>, NoMemory>
-    ensures { IfOk result (λ line. line.items ≡ ending_line (ending_of (Status.Unfit query _told _found))) }
-{
-    let mut line = Vec::from_slice(alloc, b"codes: checkpoint does not fit query ")?;
-    push_number(&mut line, query)?;
-    line.extend_from_slice(b"\n")?;
-    Ok(line)
-}
-
-/// The line of a status, for standard error: nothing for `Done`; else, with a newline after it,
-/// `codes: ` and one of these: `word N refused`, N being the index of the argument from 0, `paused at
-/// query Q blocks L`, `source fault`, `sink fault`, `vault fault`, `no memory`, `no checkpoint`,
-/// `damaged checkpoint`, `checkpoint of another script or budget`, `rejected`, `input too long` or
-/// `checkpoint does not fit query Q`. Refused only for want of memory.
-#[tactic(auto, unfolding(crate::proofs::Opened::lines_of_endings))]
+/// The line of a status, as `Status::line` gives it, in a vector. Refused only for want of memory.
 pub fn status_line(alloc: Global, status: &Status) -> Result<Vec<u8>, NoMemory>
     ensures { IfOk result (λ line. line.items ≡ ending_line (ending_of status.now)) }
 {
-    let line: &[u8] = match status {
-        Status::Done(_) => b"",
-        Status::Usage(index) => return usage_line(alloc, *index as u64),
-        Status::Paused { query, blocks } => return pause_line(alloc, *query, *blocks),
-        Status::SourceFault => b"codes: source fault\n",
-        Status::SinkFault => b"codes: sink fault\n",
-        Status::VaultFault { .. } => b"codes: vault fault\n",
-        Status::NoMemory { .. } => b"codes: no memory\n",
-        Status::NoCheckpoint => b"codes: no checkpoint\n",
-        Status::DamagedCheckpoint => b"codes: damaged checkpoint\n",
-        Status::OtherScript { .. } => b"codes: checkpoint of another script or budget\n",
-        Status::Rejected(_) => b"codes: rejected\n",
-        Status::TooLong => b"codes: input too long\n",
-        Status::Unfit { query, told, found } => {
-            return unfit_line(alloc, *query, *told, *found);
-        }
-    };
-    Ok(Vec::from_slice(alloc, line)?)
+    Ok(Vec::from_slice(alloc, status.line().as_bytes())?)
 }

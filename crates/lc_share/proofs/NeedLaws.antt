@@ -2,9 +2,8 @@
 --   HasMetNone first m       the statements before those that are left have asked no need
 --   none_yet                 at the beginning
 --   after_line, after_silent, after_count, after_near      after a statement
---   need_here, need_rows     a statement asks the first need, and its code has rows
+--   need_here                a statement asks the first need
 --   none_at_end, none_at_fault      there is none
---   first_met, none_met, none_read      the same, of the bytes of a script
 use Rattle.std.proofs.Common.{◌≡◌, ℕ, ◌<◌, List, [], ◌∷◌, ◌++◌, length, map, take, sym, subst}
 use Rattle.lc_algebra.specs.Matrix.{Matrix}
 use Rattle.lc_enumeration.specs.Search.{Answer}

@@ -4,7 +4,7 @@ use Rattle.lc_rounds.specs.Way.{Around}
 use Rattle.lc_rounds.specs.Surroundings.{seen}
 use Rattle.lc_session.proofs.EarlyEnds.{refused_words}
 use Rattle.lc_session.proofs.NoBytes.{runs}
-use Rattle.lc_session.proofs.session.session.Goals as goal
+use Rattle.lc_session.proofs.session.run_session_over.Goals as goal
 
 pub returns-in-Err-Usage-clause-session : goal.returns-in-Err-Usage-clause-session
 returns-in-Err-Usage-clause-session g c =
