@@ -1,3 +1,4 @@
+pub mod Files
 pub mod Lines
 pub mod Endings
 pub mod CommandLines

@@ -1,15 +1,17 @@
 //! The watchers of the program.
-ghost use Rattle.std.specs.Prelude.{◌≡◌, ◌≢◌, ◌<◌, ◌↔◌, None, IsOk};
+ghost use Rattle.std.specs.Prelude.{◌≡◌, ◌≢◌, ◌<◌, ◌↔◌, None, IsOk, IsSome};
 ghost use Rattle.std.specs.Io.KnownBytes.{Appends};
+ghost use Rattle.lc_io.specs.Folders.{Known};
 ghost use Rattle.lc_io.specs.Outside.{AppendsPart, HasRisen};
 ghost use Rattle.lc_io.specs.Watchers.{AnswersFrom, HearsUnlessLeft, pauses_after};
+ghost use Rattle.codes.specs.Files.{stop_file};
 ghost use Rattle.codes.specs.Lines.{record_line};
 
 use lc_arguments::{Line, push_numbered};
-use lc_io::{Advice, Record, Watcher, WriterSink, write_whole};
-use std::fs::{Files, Metadata};
+use lc_io::{Advice, Folder, Record, Watcher, WriterSink, write_whole};
+use std::fs::Metadata;
+use std::io;
 use std::io::Write;
-use std::{fs, io};
 
 // The line of a record.
 #[tactic(auto, unfolding(crate::specs::Lines::record_line))]
@@ -73,22 +75,22 @@ impl<W: Write + Drop> Watcher for LineWatcher<W> {
     }
 }
 
-/// Pauses while there is a file of this name in the current folder.
+/// Pauses while there is a file `codes.stop` in its folder.
 #[derive(Drop)]
-pub(crate) struct StopWatcher<R: Files + Drop> {
-    rt: R,
+pub(crate) struct StopWatcher<R: Folder + Drop> {
+    folder: R,
     pauses: u64,
 }
 
 /// The file that stops a session which keeps its checkpoints.
 const STOP_FILE: &str = "codes.stop";
 
-impl<R: Files + Drop> StopWatcher<R> {
-    /// A watcher that hasn't paused yet.
-    pub(crate) fn new(rt: R) -> StopWatcher<R>
-        ensures is { result.pauses ≡ 0 }
+impl<R: Folder + Drop> StopWatcher<R> {
+    /// A watcher of this folder, which hasn't paused yet.
+    pub(crate) fn new(folder: R) -> StopWatcher<R>
+        ensures is { result ≡ record { folder = folder; pauses = 0 } }
     {
-        StopWatcher { rt, pauses: 0 }
+        StopWatcher { folder, pauses: 0 }
     }
 
     // Pauses if the file was found, and as long as the pauses can be counted.
@@ -96,6 +98,7 @@ impl<R: Files + Drop> StopWatcher<R> {
         ensures pauses { self.new.pauses ≡ pauses_after self.old.pauses result }
         ensures stops { (result ≡ Advice.Pause) ↔ (IsOk found × (self.old.pauses < 18446744073709551615)) }
         ensures stays { result ≢ Advice.Leave }
+        ensures same { self.new.folder ≡ self.old.folder }
     {
         if found.is_ok() && self.pauses < u64::MAX {
             self.pauses += 1;
@@ -105,7 +108,7 @@ impl<R: Files + Drop> StopWatcher<R> {
     }
 }
 
-impl<R: Files + Drop> Watcher for StopWatcher<R> {
+impl<R: Folder + Drop> Watcher for StopWatcher<R> {
     ghost use Rattle.std.specs.Prelude.{None};
 
     ghost heard = { λ w. None };
@@ -119,8 +122,11 @@ impl<R: Files + Drop> Watcher for StopWatcher<R> {
         ensures heard { HearsUnlessLeft None _note.now result None }
         ensures pauses { self.new.pauses ≡ pauses_after self.old.pauses result }
         ensures stays { result ≢ Advice.Leave }
+        ensures stops { Known (R.files self.old.folder) (λ files. (result ≡ Advice.Pause)
+            ↔ (IsSome (files stop_file) × (self.old.pauses < 18446744073709551615))) }
+        ensures same { self.new.folder ≡ self.old.folder }
     {
-        let found = fs::metadata(&self.rt, STOP_FILE);
+        let found = self.folder.look_for(STOP_FILE);
         self.advise(found)
     }
 

@@ -4,7 +4,7 @@
 --   circulant_large, circulant_length, circulant_uneven, circulant_no_elements, circulant_fine      of one word
 --   circulant_least, circulant_most      the length of a circulant code
 --   quasi_large, quasi_length, quasi_uneven, quasi_no_elements, quasi_fine      of some words
---   quasi_least, quasi_most, quasi_rows      the length of the code, and the words
+--   quasi_least, quasi_most      the length of a quasi-cyclic code
 use Rattle.std.proofs.Common.{◌≡◌, ◌≢◌, ℕ, zero, suc, ◌*◌, ◌<◌, ◌≤◌, ◌↔◌, true, false, nat_le, ◌==◌, Bool, IsTrue, Some, None, List, length, All, refl, sym, ap, ◌∙◌, arith}
 use Rattle.std.specs.List.{list_all}
 use Rattle.std.proofs.Math.Nat.{suc-mul, zero-mul, mul-zero, mul-suc}

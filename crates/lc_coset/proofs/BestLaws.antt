@@ -1,5 +1,4 @@
 -- The best word of a search, from before its blocks to after some of them.
---   item_word                  the word of a pattern, by what it leaves of the given word
 --   PlaceParts, place_parts    the block and the index of a place of a phase
 --   word_put                   the word at a place, as it is made
 --   moved_there                if the best place changed, it is one of the new blocks

@@ -2,7 +2,7 @@
 --   one_pattern, one_block, first_blocks      level 0 has one pattern, in one block
 --   first_word_at              place 0 has the word that equals x on the first basis
 --   near_first_is              its distance and its place
---   HasNear C x y, has_near    there is a word of the code at the place, at the distance
+--   HasNear C x y              there is a word of the code at the place, at the distance
 --   near_best_word             so it is for the best
 --   near_append, near_after    the best after some blocks more
 use Rattle.std.proofs.Common.{◌≡◌, ℕ, ◌+◌, ◌-◌, ◌*◌, ◌/◌, ◌^◌, ◌<◌, List, ◌∷◌, ◌++◌, length, slice_get, refl, sym, ap, subst, ◌∙◌, ⊎_elim, arith}

@@ -1,5 +1,6 @@
 mod Fronts
 pub mod SlotLaws
+pub mod FolderLaws
 pub mod SeveralRecords
 pub mod MemoryExamples
 pub mod WatcherExamples

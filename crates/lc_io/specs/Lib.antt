@@ -1,5 +1,6 @@
 pub mod Outside
 pub mod Vaults
+pub mod Folders
 pub mod Watchers
 pub mod Told
 pub mod Memory

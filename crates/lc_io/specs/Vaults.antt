@@ -4,8 +4,8 @@
 --   other slot                 the slot that isn't this one
 --   in_slot slot slots         the bytes of this slot
 --   put slot bytes slots       the slots after these bytes replaced this slot
---   WhereTold old new P        a vault that tells its slots goes on telling them, and P holds of those before and after;
---                              one that doesn't tell them doesn't begin to
+--   WhereTold old new P        what tells its slots, or its files, goes on telling them, and P holds of those before and after;
+--                              what doesn't tell them doesn't begin to
 --   IsPut slot bytes old new   these bytes replaced this slot
 --   IsTorn slot old new        any bytes replaced this slot
 --   Loads slots slot old new n     a load into a buffer answered n: the front of the slot, as much as fits, stands at the
@@ -37,10 +37,10 @@ abbrev pub put : Slot → List ℕ → Slots → Slots
 put Zero bytes slots = record { zero_slot = bytes; one_slot = slots.one_slot }
 put One bytes slots = record { zero_slot = slots.zero_slot; one_slot = bytes }
 
--- a vault that tells its slots goes on telling them, and P holds of those before and after
-abbrev pub WhereTold : Option Slots → Option Slots → (Slots → Slots → Type 0) → Type 0
+-- what is told goes on being told, and P holds of it before and after
+abbrev pub WhereTold : {X : Type 0} → Option X → Option X → (X → X → Type 0) → Type 0
 WhereTold None new P = new ≡ None
-WhereTold (Some old) new P = (now : Slots) × (new ≡ Some now) × P old now
+WhereTold {X} (Some old) new P = (now : X) × (new ≡ Some now) × P old now
 
 -- these bytes replaced this slot
 abbrev pub IsPut : Slot → List ℕ → Slots → Slots → Type 0

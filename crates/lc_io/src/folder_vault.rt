@@ -1,15 +1,14 @@
 // A vault of two files.
-ghost use Rattle.std.specs.Prelude.{◌≡◌, ◌<◌, ◌≤◌, length, take, IfOk, OnOk, OnErr};
-ghost use Rattle.std.specs.Io.KnownBytes.{Consumes, Appends, IsAtEnd};
+ghost use Rattle.std.specs.Prelude.{◌≡◌, ◌<◌, ◌≤◌, length, take, drop, IfOk, OnOk, OnErr, MatchResult};
+ghost use Rattle.std.specs.Io.KnownBytes.{Consumes, IsAtEnd};
+ghost use Rattle.lc_io.specs.Outside.{HasRisen};
+ghost use Rattle.lc_io.specs.Vaults.{WhereTold, IsPut, IsTorn, Loads};
+ghost use Rattle.lc_io.specs.Folders.{AreApart, AreTouched, IsMade, IsTouched, LoadsFile, Replaces, next_of, name_among, slots_in};
 
-use crate::{
-    Failed, NoMemory, ReaderSource, Slot, Source, Vault, WriterSink, read_to_limit, write_whole,
-};
+use crate::{Failed, Folder, NewFile, NoMemory, ReaderSource, Slot, Source, Vault, read_to_limit};
 use std::alloc::Global;
-use std::fs::{Files, OpenFile};
-use std::io::Write;
+use std::io;
 use std::marker::Model;
-use std::{fs, io};
 
 /// The names of the file of a slot and of the one that a store writes first.
 #[derive(Drop)]
@@ -18,7 +17,44 @@ struct SlotFile {
     next: String,
 }
 
-/// A vault that keeps its slots in two files. A file that isn't there is an empty slot.
+impl Model for SlotFile {
+    ghost use Rattle.std.specs.Prelude.{◌≡◌, ℕ, List, string_bytes};
+    ghost use Rattle.lc_io.specs.Folders.{next_of};
+
+    ghost Value = { List ℕ };
+
+    ghost view = { λ s. string_bytes s.name };
+
+    ghost invariant = { λ s. string_bytes s.next ≡ next_of (string_bytes s.name) };
+}
+
+impl SlotFile {
+    fn new(alloc: Global, name: &str) -> Result<SlotFile, NoMemory>
+        ensures { IfOk result (λ s. s ≡ name.now) }
+    {
+        let mut next = String::from_str(alloc, name)?;
+        next.push_str(".new")?;
+        Ok(SlotFile {
+            name: String::from_str(alloc, name)?,
+            next,
+        })
+    }
+
+    fn name(&self) -> &str
+        ensures { result.now ≡ self.now }
+    {
+        self.name.as_str()
+    }
+
+    fn next(&self) -> &str
+        ensures { result.now ≡ next_of self.now }
+    {
+        self.next.as_str()
+    }
+}
+
+/// A vault that keeps its slots in two files of a folder. A file that isn't there is an empty slot. It tells what its slots hold if its
+/// folder tells what its files do.
 #[derive(Drop)]
 pub struct FolderVault<R> {
     rt: R,
@@ -29,86 +65,21 @@ pub struct FolderVault<R> {
 }
 
 impl<R> Model for FolderVault<R> {
-    ghost use Rattle.lc_io.specs.Outside.{Counted};
+    ghost use Rattle.lc_io.specs.Folders.{AreApart, FolderSlots};
 
-    ghost Value = { Counted R };
+    ghost Value = { FolderSlots R };
 
-    ghost view = { λ s. record { inner = s.rt; faults = s.faults } };
+    ghost view = { λ s. record { folder = s.rt; zero = s.zero; one = s.one; faults = s.faults } };
+
+    ghost invariant = { λ s. AreApart s.zero s.one };
 }
 
-impl SlotFile {
-    fn new(alloc: Global, name: &str) -> Result<SlotFile, NoMemory> {
-        let mut next = String::from_str(alloc, name)?;
-        next.push_str(".new")?;
-        Ok(SlotFile {
-            name: String::from_str(alloc, name)?,
-            next,
-        })
-    }
-}
-
-// Fills the front of `buf` from a source that is read to its end, or until `buf` is full.
-fn fill<S: Source>(alloc: Global, source: &mut S, buf: &mut [u8]) -> Result<usize, Failed>
-    ensures bound { IfOk result (λ n. n ≤ length buf.old) }
-    ensures gave { IfOk result
-        (λ n. Consumes (S.rest source.old) (S.rest source.new) (take n buf.new)) }
-    ensures whole { IfOk result (λ n. n < length buf.old → IsAtEnd (S.rest source.new)) }
-    ensures untouched { OnErr result (buf.new ≡ buf.old) }
-{
-    let Ok(bytes) = read_to_limit(alloc, source, buf.len()) else {
-        return Err(Failed);
-    };
-    buf[..bytes.len()].copy_from_slice(&bytes);
-    Ok(bytes.len())
-}
-
-// Fills the front of `buf` from a file. A file that isn't there is empty.
-fn load_file<R: Files>(rt: &R, alloc: Global, name: &str, buf: &mut [u8]) -> Result<usize, Failed>
-    ensures bound { IfOk result (λ n. n ≤ length buf.old) }
-    ensures untouched { OnErr result (buf.new ≡ buf.old) }
-{
-    match fs::open(rt, name) {
-        Ok(file) => fill(alloc, &mut ReaderSource::new(file), buf),
-        Err(error) if error.kind() == io::ErrorKind::NotFound => Ok(0),
-        Err(_) => Err(Failed),
-    }
-}
-
-// Writes all bytes to a file, and then waits until the disk has them.
-fn put<F: Write + OpenFile>(file: &mut WriterSink<F>, bytes: &[u8]) -> Result<(), Failed>
-    ensures whole { OnOk result (Appends (F.contents file.old.inner) (F.contents file.new.inner) bytes.now) }
-{
-    write_whole(file, bytes)?;
-    match file.get_ref().sync_all() {
-        Ok(()) => Ok(()),
-        Err(_) => Err(Failed),
-    }
-}
-
-// Makes a new file of these bytes. What has its name is removed first, and a file is made only if nothing has it then. So no link
-// is followed, and nothing outside the folder is written.
-fn write_file<R: Files>(rt: &R, name: &str, bytes: &[u8]) -> Result<(), Failed> {
-    let _ = fs::remove_file(rt, name);
-    match fs::File::create_new(rt, name) {
-        Ok(file) => put(&mut WriterSink::new(file), bytes),
-        Err(_) => Err(Failed),
-    }
-}
-
-// Replaces a file by one that was written whole.
-fn store_file<R: Files>(rt: &R, file: &SlotFile, bytes: &[u8]) -> Result<(), Failed> {
-    write_file(rt, file.next.as_str(), bytes)?;
-    match fs::rename(rt, file.next.as_str(), file.name.as_str()) {
-        Ok(()) => Ok(()),
-        Err(_) => Err(Failed),
-    }
-}
-
-impl<R: Files + Drop> FolderVault<R> {
-    /// A vault of the files with these names, which hasn't failed. A store makes a new file whose name
-    /// has `.new` at its end, never through a link, and then renames it. Fails only if memory runs out.
+impl<R: Folder + Drop> FolderVault<R> {
+    /// A vault of the files with these names, which hasn't failed. Neither name may be the other, or the other with `.new` at its end.
+    /// A store makes a new file whose name has `.new` at its end, and then renames it. Fails only if memory runs out.
     pub fn new(rt: R, alloc: Global, zero: &str, one: &str) -> Result<FolderVault<R>, NoMemory>
-        ensures { IfOk result (λ v. v ≡ record { inner = rt; faults = 0 }) }
+        requires { AreApart zero.now one.now }
+        ensures { IfOk result (λ v. v ≡ record { folder = rt; zero = zero.now; one = one.now; faults = 0 }) }
     {
         Ok(FolderVault {
             rt,
@@ -118,25 +89,90 @@ impl<R: Files + Drop> FolderVault<R> {
             faults: 0,
         })
     }
+}
 
-    fn file(&self, slot: Slot) -> &SlotFile {
-        match slot {
-            Slot::Zero => &self.zero,
-            Slot::One => &self.one,
-        }
+// The file of a slot.
+fn file_of<'a>(zero: &'a SlotFile, one: &'a SlotFile, slot: Slot) -> &'a SlotFile
+    ensures { result.now ≡ name_among slot zero.now one.now }
+{
+    match slot {
+        Slot::Zero => zero,
+        Slot::One => one,
     }
 }
 
-impl<R: Files + Drop> Vault for FolderVault<R> {
-    ghost use Rattle.std.specs.Prelude.{None};
+// Fills the front of `buf` from a source that is read to its end, or until `buf` is full.
+fn fill<S: Source>(alloc: Global, source: &mut S, buf: &mut [u8]) -> Result<usize, Failed>
+    ensures bound { IfOk result (λ n. n ≤ length buf.old) }
+    ensures gave { IfOk result
+        (λ n. Consumes (S.rest source.old) (S.rest source.new) (take n buf.new)) }
+    ensures whole { IfOk result (λ n. n < length buf.old → IsAtEnd (S.rest source.new)) }
+    ensures behind { IfOk result (λ n. drop n buf.new ≡ drop n buf.old) }
+    ensures untouched { OnErr result (buf.new ≡ buf.old) }
+{
+    let Ok(bytes) = read_to_limit(alloc, source, buf.len()) else {
+        return Err(Failed);
+    };
+    buf[..bytes.len()].copy_from_slice(&bytes);
+    Ok(bytes.len())
+}
 
-    ghost contents = { λ v. None };
+// Fills the front of `buf` from a file of the folder. A file that isn't there is empty.
+fn load_file<R: Folder>(
+    folder: &R,
+    alloc: Global,
+    name: &str,
+    buf: &mut [u8],
+) -> Result<usize, Failed>
+    ensures bound { IfOk result (λ n. n ≤ length buf.old) }
+    ensures gave { IfOk result (λ n. LoadsFile (R.files folder.now) name.now buf.old buf.new n) }
+    ensures untouched { OnErr result (buf.new ≡ buf.old) }
+{
+    match folder.open_file(name) {
+        Ok(file) => fill(alloc, &mut ReaderSource::new(file), buf),
+        Err(error) if error.kind() == io::ErrorKind::NotFound => Ok(0),
+        Err(_) => Err(Failed),
+    }
+}
+
+// Makes a new file of these bytes, in place of what has the name, and waits until the disk has them.
+#[tactic(auto, using(crate::proofs::FolderLaws::made_file, crate::proofs::FolderLaws::torn_file))]
+fn make_file<R: Folder>(folder: &mut R, name: &str, bytes: &[u8]) -> Result<(), Failed>
+    ensures made { OnOk result (WhereTold (R.files folder.old) (R.files folder.new) (IsMade name.now bytes.now)) }
+    ensures torn { OnErr result (WhereTold (R.files folder.old) (R.files folder.new) (IsTouched name.now)) }
+{
+    let _ = folder.remove_file(name);
+    let Ok(mut file) = folder.create_file(name) else {
+        return Err(Failed);
+    };
+    file.put(bytes)?;
+    match folder.keep_file(&file) {
+        Ok(()) => Ok(()),
+        Err(_) => Err(Failed),
+    }
+}
+
+// Replaces what a file of the folder holds: a file with another name is made first, and then has its name.
+fn replace<R: Folder>(folder: &mut R, file: &SlotFile, bytes: &[u8]) -> Result<(), Failed>
+    ensures whole { OnOk result (WhereTold (R.files folder.old) (R.files folder.new) (Replaces file.now bytes.now)) }
+    ensures torn { OnErr result (WhereTold (R.files folder.old) (R.files folder.new) (AreTouched (next_of file.now) file.now)) }
+{
+    make_file(folder, file.next(), bytes)?;
+    match folder.move_file(file.next(), file.name()) {
+        Ok(()) => Ok(()),
+        Err(_) => Err(Failed),
+    }
+}
+
+impl<R: Folder + Drop> Vault for FolderVault<R> {
+    ghost contents = { λ v. slots_in v.zero v.one (R.files v.folder) };
 
     ghost faults = { λ v. v.faults };
 
     /// Reads the file once. A file that isn't there is no fault.
     fn load(&mut self, slot: Slot, buf: &mut [u8]) -> Result<usize, Failed> {
-        match load_file(&self.rt, self.alloc, self.file(slot).name.as_str(), buf) {
+        let file = file_of(&self.zero, &self.one, slot);
+        match load_file(&self.rt, self.alloc, file.name(), buf) {
             Ok(count) => Ok(count),
             Err(fault) => {
                 self.faults = self.faults.saturating_add(1);
@@ -146,8 +182,9 @@ impl<R: Files + Drop> Vault for FolderVault<R> {
     }
 
     /// Writes the bytes to a new file, waits until they are on the disk, and renames it.
+    #[tactic(auto, using(crate::proofs::FolderLaws::torn_slots))]
     fn store(&mut self, slot: Slot, bytes: &[u8]) -> Result<(), Failed> {
-        match store_file(&self.rt, self.file(slot), bytes) {
+        match replace(&mut self.rt, file_of(&self.zero, &self.one, slot), bytes) {
             Ok(()) => Ok(()),
             Err(fault) => {
                 self.faults = self.faults.saturating_add(1);

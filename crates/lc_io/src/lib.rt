@@ -11,6 +11,7 @@
 
 mod adapters;
 mod calls;
+mod folder;
 mod folder_vault;
 mod gate;
 mod input;
@@ -23,6 +24,7 @@ mod vault;
 mod watcher;
 
 pub use adapters::{ReaderSource, WriterSink};
+pub use folder::{Folder, NewFile};
 pub use folder_vault::FolderVault;
 pub use gate::{Gate, OpenGate};
 pub use input::MemorySource;

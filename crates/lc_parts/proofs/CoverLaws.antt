@@ -1,8 +1,8 @@
 -- True parts have the best word of the blocks that they have.
 --   least_word               the word that is found, and that none found beats, is the best
---   first_seen               the best word after some blocks is found in them, or is that at place 0
---   seen_later               what is found in some blocks is found in more
---   part_seen, part_least    what is found in a true part
+--   best_seen                the best word after some blocks is found in them, or is that at place 0
+--   seen_more                what is found in some blocks is found in more
+--   part_seen                what is found in a true part
 --   covered_best             parts that have all blocks below a number have the best word of these
 --   joined_best              a part that goes on from a state makes a best word of a best word
 --   part_begun, part_longer  a part without a block, and one with more blocks

@@ -2,7 +2,6 @@
 --   total_by, total_of           the end of the plan
 --   answered_budget, answered_past, answered_here, answered_not      at the end of the budget; past the end of the plan; where a phase
 --                                begins; inside one
---   open_inside                  a search that isn't answered has a next block
 --   wanted_is, wanted_end                    how far the next part may reach
 --   continues_is                 whether a part goes on from a state
 --   with_answered, with_passed, with_lesser, with_greater      the state after a part: of an answered search; if the part doesn't go

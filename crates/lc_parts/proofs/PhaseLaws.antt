@@ -1,10 +1,9 @@
 -- The phase of the next block: which levels are done, whether a state may be exact, and where the phase ends. The dimension is k, the
 -- size of the field q, the number of sets m.
 --   last_exact, last_passes     the last number that passes a test
---   phase_number                a phase by its level and its set
 --   level_here                  which level of a set is done
 --   level_past                  all are past the end of a plan that isn't cut
---   Ends, ends_here, ends_not   a state may be exact where a phase begins, and not inside one
+--   ends_here                   a state may be exact exactly where a phase begins
 --   ends_past                   it may past the end
 --   end_here                    where the phase ends
 use Rattle.std.proofs.Common.{◌≡◌, ℕ, zero, suc, ◌+◌, ◌-◌, ◌*◌, ◌/◌, ◌%◌, ◌<◌, ◌≤◌, min, Bool, true, false, cond, ◌&&◌, ◌||◌, ◌==◌, nat_le, nat_lt, find, filter, List, map, Option, unwrap_or, Contains, refl, sym, ap, subst, ◌∙◌, ⊎_elim, arith}

@@ -3,7 +3,7 @@
 --   length_support         the support has as many coordinates as the word has nonzero symbols
 --   rising_push, rising_filter      numbers that are picked from those below n rise
 --   support_below, support_fine     so a word with a symbol 0 has a support at which a code may be punctured
---   left_none, left_some, left_fine      whether a coordinate is left
+--   left_none, left_fine      whether a coordinate is left
 --   residual_code, residual_refused, residual_first      the code that is punctured there
 use Rattle.std.proofs.Common.{◌≡◌, ℕ, zero, suc, ◌+◌, ◌-◌, ◌<◌, ◌≤◌, Bool, true, false, not, nat_le, nat_lt, cond, ◌==◌, List, [], ◌∷◌, ◌++◌, length, filter, count_by, slice_index, Some, None, is_some, Result, IfOk, Contains, refl, sym, ap, subst, ◌∙◌, ⊎_elim, arith, true≢false}
 use Rattle.std.specs.List.{list_any}

@@ -1,8 +1,6 @@
 -- The dimension of a quadratic residue code. The codes of the two periods have all words as sums, and the multiples of the word of ones in
 -- common; and one is the other with its coordinates multiplied by a number that is no residue.
 --   combine_units, units_independent, units_span       the unit words are independent, and their sums of multiples are all words
---   units_in               they are sums of words of both codes
---   other_there            there is a number that is no residue, and its inverse is none
 --   residue_dimension      the dimension is (n + 1) / 2
 --   is_quadratic_residue   the code of the least period is a quadratic residue code
 --   common_constant        the words that both codes have are the words of equal symbols

@@ -3,7 +3,6 @@
 --   unit_parts             the residue word is that of the residues, and minus the period at 0
 --   check_word f n t m     the residue word of t, turned and moved on by m coordinates
 --   product_is             the dot of the residue word of a period with each check word of the other period is the same
---   common_words           a word of both codes has equal symbols
 use Rattle.std.proofs.Common.{◌≡◌, ◌≢◌, ℕ, zero, suc, ◌+◌, ◌-◌, ◌*◌, ◌/◌, ◌%◌, ◌^◌, ◌<◌, ◌≤◌, Bool, true, false, if◌then◌else◌, ◌==◌, List, [], ◌∷◌, length, map, slice_index, refl, sym, ap, ap₂, subst, ◌∙◌, ⊎_elim, arith}
 use Rattle.std.proofs.Math.Nat.{mod-lt, mod-eq_of_lt, mod_self, zero-mod, add-mod_right, zero-mul, one-mul}
 use Rattle.std.proofs.lemmas.Bool.{cases_lt, cases_eq, ne_eqb}
