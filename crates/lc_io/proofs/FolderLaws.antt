@@ -1,14 +1,18 @@
 -- Lemmas on the files of a folder, of which two are the slots of a vault.
 --   made_file        a file that is removed, made anew, written and kept has the bytes that were written
 --   torn_file        one that isn't kept in the end leaves each other file as it was
---   torn_slots       what leaves each file but those of a slot as it was, leaves the other slot as it was
-use Rattle.std.proofs.Common.{◌≡◌, sym, ap, subst, ◌∙◌}
-use Rattle.std.specs.Prelude.{ℕ, List, [], Option, Some, None}
+--   left_whole       a file that wasn't made leaves that of the slot as it was
+--   moved_whole      a file that was made leaves it with the new bytes, or as it was
+--   whole_slots      so does a store leave the slots
+--   torn_slots       and no other slot than its own is touched
+use Rattle.std.proofs.Common.{◌≡◌, ◌≢◌, refl, sym, ap, subst, ◌∙◌, ◌+◌, inl, inr, ⊎_elim, arith}
+use Rattle.std.proofs.lemmas.List.{length-append}
+use Rattle.std.specs.Prelude.{ℕ, List, [], length, codes, Option, Some, None}
 use Rattle.lc_io.specs.declared.vault.Slot.{Slot}
 use Rattle.lc_io.specs.declared.vault.Slot.TheVariants.{Zero, One}
-use Rattle.lc_io.specs.Vaults.{Slots, WhereTold, IsTorn}
-use Rattle.lc_io.proofs.SlotLaws.{WhereTold-map}
-use Rattle.lc_io.specs.Folders.{Contents, Written, held, bytes_of, IsNew, IsWrittenOn, IsKept, TouchesOnly, IsMade, IsTouched, AreTouched, AreApart, next_of, name_among, slots_in}
+use Rattle.lc_io.specs.Vaults.{Slots, in_slot, put, WhereTold, IsTorn}
+use Rattle.lc_io.proofs.SlotLaws.{WhereTold-map, WhereTold-then}
+use Rattle.lc_io.specs.Folders.{Contents, Written, held, bytes_of, IsNew, IsWrittenOn, IsKept, TouchesOnly, IsMade, IsTouched, IsMovedOrNot, IsReplacedOrNot, IsPutOrNot, AreApart, next_of, name_among, slots_in}
 
 -- the last of the steps, of which the file has what was written
 abbrev Ends : List ℕ → List ℕ → (Option Written → Contents → Contents → Type 0) → Contents → Contents → Type 0
@@ -44,15 +48,63 @@ torn_file name bytes first cleared made new empty full removed created is writte
     (λ a b (m, before, after) other not. after other not ∙ before other not)
     (steps name bytes first cleared made new empty full TouchesOnly removed created is written torn)
 
+next_differs : (name : List ℕ) → name ≢ next_of name
+next_differs name same =
+    let longer : length name ≡ length name + 4 = ap length same ∙ length-append name (codes ".new") in
+    omega (arith, longer)
+
+pub left_whole : (name bytes : List ℕ) (old new : Option Contents) → WhereTold old new (IsTouched (next_of name)) → WhereTold old new (IsReplacedOrNot name bytes)
+left_whole name bytes old new torn =
+    WhereTold-map old new (IsTouched (next_of name)) (IsReplacedOrNot name bytes)
+    (λ a b is. record { whole = inr (is name (next_differs name)); others = λ other not_next not. is other not_next })
+    torn
+
+moved_or_not : (name bytes : List ℕ) (a b c : Contents) → IsMade (next_of name) bytes a b → IsMovedOrNot (next_of name) name b c → IsReplacedOrNot name bytes a c
+moved_or_not name bytes a b c made (inl moved) = record {
+  whole = inl (moved.moved ∙ made.made);
+  others = λ other not_next not. moved.others other not_next not ∙ made.others other not_next;
+}
+moved_or_not name bytes a b c made (inr same) = record {
+  whole = inr (same name ∙ made.others name (next_differs name));
+  others = λ other not_next not. same other ∙ made.others other not_next;
+}
+
+pub moved_whole : (name bytes : List ℕ) (old made new : Option Contents) → WhereTold old made (IsMade (next_of name) bytes) → WhereTold made new (IsMovedOrNot (next_of name) name)
+    → WhereTold old new (IsReplacedOrNot name bytes)
+moved_whole name bytes old made new is moved =
+    WhereTold-then old made new (IsMade (next_of name) bytes) (IsMovedOrNot (next_of name) name) (IsReplacedOrNot name bytes) (moved_or_not name bytes) is moved
+
 abbrev both : List ℕ → List ℕ → Slots
 both zero one = record { zero_slot = zero; one_slot = one }
 
-pub torn_slots : (slot : Slot) (zero one : List ℕ) (old new : Option Contents) → AreApart zero one → WhereTold old new (AreTouched (next_of (name_among slot zero one)) (name_among slot zero one))
+put_or_not : (slot : Slot) (zero one bytes : List ℕ) (a b : Contents) → AreApart zero one → IsReplacedOrNot (name_among slot zero one) bytes a b
+    → IsPutOrNot slot bytes (both (held a zero) (held a one)) (both (held b zero) (held b one))
+put_or_not Zero zero one bytes a b apart is =
+    let other : held b one ≡ held a one = ap bytes_of (is.others one apart.zero_next (λ e. apart.names (sym e))) in
+    ⊎_elim
+    (λ put. inl (ap (λ (l : List ℕ). both l (held b one)) (ap bytes_of put) ∙ ap (both bytes) other))
+    (λ same. inr (ap (λ (l : List ℕ). both l (held b one)) (ap bytes_of same) ∙ ap (both (held a zero)) other))
+    is.whole
+put_or_not One zero one bytes a b apart is =
+    let other : held b zero ≡ held a zero = ap bytes_of (is.others zero apart.one_next apart.names) in
+    ⊎_elim
+    (λ put. inl (ap (both (held b zero)) (ap bytes_of put) ∙ ap (λ (l : List ℕ). both l bytes) other))
+    (λ same. inr (ap (both (held b zero)) (ap bytes_of same) ∙ ap (λ (l : List ℕ). both l (held a one)) other))
+    is.whole
+
+pub whole_slots : (slot : Slot) (zero one bytes : List ℕ) (old new : Option Contents) → AreApart zero one → WhereTold old new (IsReplacedOrNot (name_among slot zero one) bytes)
+    → WhereTold (slots_in zero one old) (slots_in zero one new) (IsPutOrNot slot bytes)
+whole_slots slot zero one bytes None new apart is = ap (slots_in zero one) is
+whole_slots slot zero one bytes (Some old) new apart (files, is, now) =
+    (both (held files zero) (held files one), ap (slots_in zero one) is, put_or_not slot zero one bytes old files apart now)
+
+put_again : (slot : Slot) (slots : Slots) → slots ≡ put slot (in_slot slot slots) slots
+put_again Zero slots = refl
+put_again One slots = refl
+
+pub torn_slots : (slot : Slot) (zero one bytes : List ℕ) (old new : Option Contents) → AreApart zero one → WhereTold old new (IsReplacedOrNot (name_among slot zero one) bytes)
     → WhereTold (slots_in zero one old) (slots_in zero one new) (IsTorn slot)
-torn_slots slot zero one None new apart is = ap (slots_in zero one) is
-torn_slots Zero zero one (Some old) new apart (files, is, now) =
-    let same = ap bytes_of (now one apart.zero_next (λ e. apart.names (sym e))) in
-    (both (held files zero) (held files one), ap (slots_in zero one) is, (held files zero, ap (both (held files zero)) same))
-torn_slots One zero one (Some old) new apart (files, is, now) =
-    let same = ap bytes_of (now zero apart.one_next apart.names) in
-    (both (held files zero) (held files one), ap (slots_in zero one) is, (held files one, ap (λ (l : List ℕ). both l (held files one)) same))
+torn_slots slot zero one bytes old new apart is =
+    WhereTold-map (slots_in zero one old) (slots_in zero one new) (IsPutOrNot slot bytes) (IsTorn slot)
+    (λ a b h. ⊎_elim (λ put. (bytes, put)) (λ same. (in_slot slot a, same ∙ put_again slot a)) h)
+    (whole_slots slot zero one bytes old new apart is)

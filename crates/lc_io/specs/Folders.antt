@@ -15,16 +15,18 @@
 --   IsTouched name old new         what has another name than this one is as it was
 --   IsMoved from to old new        what had the name `from` has the name `to`, and nothing has the name `from`; what has another name
 --                                  is as it was
---   AreTouched from to old new     what has another name than these two is as it was
+--   IsMovedOrNot from to old new   the same, or all is as it was
 --   next_of name                   the name of the file that a store of a slot writes first
 --   Replaces name bytes old new    the file with this name has these bytes; what has neither this name nor that of the file that a
 --                                  store writes first is as it was
+--   IsReplacedOrNot name bytes old new     the file with this name has these bytes, or what it had; the others as before
 --   AreApart zero one              the names of two slots: neither is the other, nor what a store of the other writes first
 --   FolderSlots R                  a vault of two files: its folder, the names of its slots, and how often it has failed
 --   name_among slot zero one       the name of the file of a slot, of these two
 --   slots_in zero one told         the slots of a vault of files with these names
-use Rattle.std.specs.Prelude.{◌≡◌, ◌≢◌, ◌≤◌, ◌++◌, ℕ, List, [], codes, length, take, drop, min, Option, Some, None, option_map}
-use Rattle.lc_io.specs.Vaults.{Slots}
+--   IsPutOrNot slot bytes old new  these bytes replaced this slot, or both are as they were
+use Rattle.std.specs.Prelude.{◌≡◌, ◌≢◌, ◌⊎◌, ◌≤◌, ◌++◌, ℕ, List, [], codes, length, take, drop, min, Option, Some, None, option_map}
+use Rattle.lc_io.specs.Vaults.{Slots, put}
 use Rattle.lc_io.specs.declared.vault.Slot.{Slot}
 use Rattle.lc_io.specs.declared.vault.Slot.TheVariants.{Zero, One}
 
@@ -88,14 +90,18 @@ pub record IsMoved (from to : List ℕ) (old new : Contents) : Type 0 where
   pub gone : from ≢ to → new from ≡ None
   pub others : (other : List ℕ) → other ≢ from → other ≢ to → new other ≡ old other
 
-abbrev pub AreTouched : List ℕ → List ℕ → Contents → Contents → Type 0
-AreTouched from to old new = (other : List ℕ) → other ≢ from → other ≢ to → new other ≡ old other
+abbrev pub IsMovedOrNot : List ℕ → List ℕ → Contents → Contents → Type 0
+IsMovedOrNot from to old new = IsMoved from to old new ⊎ ((name : List ℕ) → new name ≡ old name)
 
 abbrev pub next_of : List ℕ → List ℕ
 next_of name = name ++ codes ".new"
 
 pub record Replaces (name bytes : List ℕ) (old new : Contents) : Type 0 where
   pub replaced : new name ≡ Some bytes
+  pub others : (other : List ℕ) → other ≢ next_of name → other ≢ name → new other ≡ old other
+
+pub record IsReplacedOrNot (name bytes : List ℕ) (old new : Contents) : Type 0 where
+  pub whole : (new name ≡ Some bytes) ⊎ (new name ≡ old name)
   pub others : (other : List ℕ) → other ≢ next_of name → other ≢ name → new other ≡ old other
 
 pub record AreApart (zero one : List ℕ) : Type 0 where
@@ -115,3 +121,6 @@ name_among One zero one = one
 
 abbrev pub slots_in : List ℕ → List ℕ → Option Contents → Option Slots
 slots_in zero one told = option_map (λ (files : Contents). record { zero_slot = held files zero; one_slot = held files one }) told
+
+abbrev pub IsPutOrNot : Slot → List ℕ → Slots → Slots → Type 0
+IsPutOrNot slot bytes old new = (new ≡ put slot bytes old) ⊎ (new ≡ old)

@@ -2,7 +2,7 @@
 ghost use Rattle.std.specs.Prelude.{◌≡◌, ◌↔◌, Option, None, IfOk, IfErr, IsOk, IsSome, OnOk, OnErr};
 ghost use Rattle.std_io.specs.IoError.{error_kind};
 ghost use Rattle.lc_io.specs.Vaults.{WhereTold};
-ghost use Rattle.lc_io.specs.Folders.{Known, IsNew, IsWrittenOn, KeepsName, Opens, IsKept, TouchesOnly, IsTouched, IsMoved, AreTouched};
+ghost use Rattle.lc_io.specs.Folders.{Known, IsNew, IsWrittenOn, KeepsName, Opens, IsKept, TouchesOnly, IsTouched, IsMoved, IsMovedOrNot};
 
 use crate::{Failed, WriterSink, write_whole};
 use std::fs::{Files, Metadata, OpenFile};
@@ -60,12 +60,12 @@ pub trait Folder {
             (WhereTold (files self.old) (files self.new) (IsKept (Self.Writer.written file.now))) }
         ensures others { WhereTold (files self.old) (files self.new) (TouchesOnly (Self.Writer.written file.now)) };
 
-    /// Gives the file `from` the name `to`, in place of one that has it. A call that fails changes no other file.
+    /// Gives the file `from` the name `to`, in place of one that has it. A call that fails has done so all the same, or changes nothing.
     fn move_file(&mut self, from: &str, to: &str) -> io::Result<()>
         ensures moved { OnOk result
             (WhereTold (files self.old) (files self.new) (IsMoved from.now to.now)) }
         ensures torn { OnErr result
-            (WhereTold (files self.old) (files self.new) (AreTouched from.now to.now)) };
+            (WhereTold (files self.old) (files self.new) (IsMovedOrNot from.now to.now)) };
 
     /// Looks for a file. The answer is an error exactly if there is none, in a folder that tells what it holds.
     fn look_for(&self, name: &str) -> io::Result<Metadata>

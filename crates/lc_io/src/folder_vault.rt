@@ -3,7 +3,7 @@ ghost use Rattle.std.specs.Prelude.{◌≡◌, ◌<◌, ◌≤◌, length, take,
 ghost use Rattle.std.specs.Io.KnownBytes.{Consumes, IsAtEnd};
 ghost use Rattle.lc_io.specs.Outside.{HasRisen};
 ghost use Rattle.lc_io.specs.Vaults.{WhereTold, IsPut, IsTorn, Loads};
-ghost use Rattle.lc_io.specs.Folders.{AreApart, AreTouched, IsMade, IsTouched, LoadsFile, Replaces, next_of, name_among, slots_in};
+ghost use Rattle.lc_io.specs.Folders.{AreApart, IsMade, IsPutOrNot, IsReplacedOrNot, IsTouched, LoadsFile, Replaces, next_of, name_among, slots_in};
 
 use crate::{Failed, Folder, NewFile, NoMemory, ReaderSource, Slot, Source, Vault, read_to_limit};
 use std::alloc::Global;
@@ -152,10 +152,13 @@ fn make_file<R: Folder>(folder: &mut R, name: &str, bytes: &[u8]) -> Result<(), 
     }
 }
 
-// Replaces what a file of the folder holds: a file with another name is made first, and then has its name.
+// Replaces what a file of the folder holds: a file with another name is made first, and then has its name. So a call that fails leaves
+// in the file what it had, or all of the bytes.
+#[tactic(auto, using(crate::proofs::FolderLaws::left_whole, crate::proofs::FolderLaws::moved_whole))]
 fn replace<R: Folder>(folder: &mut R, file: &SlotFile, bytes: &[u8]) -> Result<(), Failed>
     ensures whole { OnOk result (WhereTold (R.files folder.old) (R.files folder.new) (Replaces file.now bytes.now)) }
-    ensures torn { OnErr result (WhereTold (R.files folder.old) (R.files folder.new) (AreTouched (next_of file.now) file.now)) }
+    ensures torn { OnErr result
+        (WhereTold (R.files folder.old) (R.files folder.new) (IsReplacedOrNot file.now bytes.now)) }
 {
     make_file(folder, file.next(), bytes)?;
     match folder.move_file(file.next(), file.name()) {
@@ -181,9 +184,19 @@ impl<R: Folder + Drop> Vault for FolderVault<R> {
         }
     }
 
-    /// Writes the bytes to a new file, waits until they are on the disk, and renames it.
-    #[tactic(auto, using(crate::proofs::FolderLaws::torn_slots))]
-    fn store(&mut self, slot: Slot, bytes: &[u8]) -> Result<(), Failed> {
+    /// Writes the bytes to a new file, waits until they are on the disk, and renames it. A store that fails leaves in the slot what it
+    /// had, or all of the bytes.
+    #[tactic(auto, using(crate::proofs::FolderLaws::whole_slots, crate::proofs::FolderLaws::torn_slots))]
+    fn store(&mut self, slot: Slot, bytes: &[u8]) -> Result<(), Failed>
+        ensures stored { OnOk result (WhereTold (slots_in self.old.zero self.old.one (R.files self.old.folder))
+            (slots_in self.new.zero self.new.one (R.files self.new.folder)) (IsPut slot bytes.now)) }
+        ensures torn { OnErr result (WhereTold (slots_in self.old.zero self.old.one (R.files self.old.folder))
+            (slots_in self.new.zero self.new.one (R.files self.new.folder)) (IsTorn slot)) }
+        ensures whole { OnErr result (WhereTold (slots_in self.old.zero self.old.one (R.files self.old.folder))
+            (slots_in self.new.zero self.new.one (R.files self.new.folder)) (IsPutOrNot slot bytes.now)) }
+        ensures count { MatchResult result (λ _. self.new.faults ≡ self.old.faults)
+            (λ _. HasRisen self.old.faults self.new.faults) }
+    {
         match replace(&mut self.rt, file_of(&self.zero, &self.one, slot), bytes) {
             Ok(()) => Ok(()),
             Err(fault) => {
