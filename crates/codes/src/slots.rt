@@ -12,7 +12,8 @@ const SLOT_ONE: &str = "codes.slot1";
 
 /// The vault of these two files of a folder. Fails only if memory runs out.
 pub(crate) fn slots<R: Folder + Drop>(folder: R, alloc: Global) -> Result<FolderVault<R>, NoMemory>
-    ensures is { IfOk result (λ vault. vault ≡ record { folder = folder; zero = slot_zero; one = slot_one; faults = 0 }) }
+    ensures is { IfOk result
+        (λ vault. vault ≡ record { folder = folder; zero = slot_zero; one = slot_one; faults = 0 }) }
 {
     let vault = FolderVault::new(folder, alloc, SLOT_ZERO, SLOT_ONE)?;
     Ok(vault)

@@ -41,8 +41,8 @@ pub trait Folder {
     /// is no file.
     fn open_file(&self, name: &str) -> io::Result<Self::Reader>
         ensures opened { IfOk result (λ file. Opens (files self.now) name.now (Self.Reader.remaining file)) }
-        ensures missing { IfErr result
-            (λ error. error_kind error ≡ ErrorKind.NotFound → Known (files self.now) (λ contents. contents name.now ≡ None)) };
+        ensures missing { IfErr result (λ error. error_kind error ≡ ErrorKind.NotFound
+            → Known (files self.now) (λ contents. contents name.now ≡ None)) };
 
     /// Removes what has this name, and changes no other file.
     fn remove_file(&mut self, name: &str) -> io::Result<()>
