@@ -1,6 +1,8 @@
 // What a folder of files promises, and the folders of the library.
 ghost use Rattle.std.specs.Prelude.{◌≡◌, ◌↔◌, Option, None, IfOk, IfErr, IsOk, IsSome, OnOk, OnErr};
+ghost use Rattle.std.specs.Io.KnownBytes.{Appends};
 ghost use Rattle.std_io.specs.IoError.{error_kind};
+ghost use Rattle.lc_io.specs.Outside.{AppendsPart};
 ghost use Rattle.lc_io.specs.Vaults.{WhereTold};
 ghost use Rattle.lc_io.specs.Folders.{Known, IsNew, IsWrittenOn, KeepsName, Opens, IsKept, TouchesOnly, IsTouched, IsMoved, IsMovedOrNot};
 
@@ -39,23 +41,23 @@ pub trait Folder {
 
     /// Opens a file. If the folder tells what it holds, the reader gives all bytes of the file, and the error is `NotFound` only if there
     /// is no file.
-    fn open_file(&self, name: &str) -> io::Result<Self::Reader>
+    fn open_reader(&self, name: &str) -> io::Result<Self::Reader>
         ensures opened { IfOk result (λ file. Opens (files self.now) name.now (Self.Reader.remaining file)) }
         ensures missing { IfErr result (λ error. error_kind error ≡ ErrorKind.NotFound
             → Known (files self.now) (λ contents. contents name.now ≡ None)) };
 
     /// Removes what has this name, and changes no other file.
-    fn remove_file(&mut self, name: &str) -> io::Result<()>
+    fn remove(&mut self, name: &str) -> io::Result<()>
         ensures { WhereTold (files self.old) (files self.new) (IsTouched name.now) };
 
     /// Makes a new file, in which nothing is written. It changes no other file.
-    fn create_file(&mut self, name: &str) -> io::Result<Self::Writer>
+    fn open_writer(&mut self, name: &str) -> io::Result<Self::Writer>
         ensures created { IfOk result (λ file. IsNew (files self.old) name.now (Self.Writer.written file)) }
         ensures others { WhereTold (files self.old) (files self.new) (IsTouched name.now) };
 
     /// Waits until the disk has what was written to a file that this folder made. Only then does the file have these bytes: one that
     /// is not kept may hold any.
-    fn keep_file(&mut self, file: &Self::Writer) -> io::Result<()>
+    fn keep(&mut self, file: &Self::Writer) -> io::Result<()>
         ensures kept { OnOk result
             (WhereTold (files self.old) (files self.new) (IsKept (Self.Writer.written file.now))) }
         ensures others { WhereTold (files self.old) (files self.new) (TouchesOnly (Self.Writer.written file.now)) };
@@ -72,13 +74,18 @@ pub trait Folder {
         ensures { Known (files self.now) (λ contents. IsOk result ↔ IsSome (contents name.now)) };
 }
 
-impl<F: Write + OpenFile> NewFile for F {
+impl<F: Write> NewFile for WriterSink<F> {
     ghost use Rattle.std.specs.Prelude.{None};
 
     ghost written = { λ f. None };
 
-    fn put(&mut self, bytes: &[u8]) -> Result<(), Failed> {
-        write_whole(&mut WriterSink::new(self), bytes)
+    fn put(&mut self, bytes: &[u8]) -> Result<(), Failed>
+        ensures put { OnOk result (WhereTold None None (IsWrittenOn bytes.now)) }
+        ensures torn { OnErr result (WhereTold None None KeepsName) }
+        ensures whole { OnOk result (Appends (F.contents self.old.inner) (F.contents self.new.inner) bytes.now) }
+        ensures part { OnErr result (AppendsPart (F.contents self.old.inner) (F.contents self.new.inner) bytes.now) }
+    {
+        write_whole(self, bytes)
     }
 }
 
@@ -90,23 +97,23 @@ impl<R: Files> Folder for R {
 
     type Reader = <R as Files>::File;
 
-    type Writer = <R as Files>::File;
+    type Writer = WriterSink<<R as Files>::File>;
 
-    fn open_file(&self, name: &str) -> io::Result<<R as Files>::File> {
+    fn open_reader(&self, name: &str) -> io::Result<<R as Files>::File> {
         fs::open(self, name)
     }
 
-    fn remove_file(&mut self, name: &str) -> io::Result<()> {
+    fn remove(&mut self, name: &str) -> io::Result<()> {
         fs::remove_file(self, name)
     }
 
     /// It fails if anything has the name, so that no link is followed.
-    fn create_file(&mut self, name: &str) -> io::Result<<R as Files>::File> {
-        fs::File::create_new(self, name)
+    fn open_writer(&mut self, name: &str) -> io::Result<WriterSink<<R as Files>::File>> {
+        Ok(WriterSink::new(fs::File::create_new(self, name)?))
     }
 
-    fn keep_file(&mut self, file: &<R as Files>::File) -> io::Result<()> {
-        file.sync_all()
+    fn keep(&mut self, file: &WriterSink<<R as Files>::File>) -> io::Result<()> {
+        file.get_ref().sync_all()
     }
 
     fn move_file(&mut self, from: &str, to: &str) -> io::Result<()> {

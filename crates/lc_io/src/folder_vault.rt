@@ -128,7 +128,7 @@ fn load_file<R: Folder>(
     ensures gave { IfOk result (λ n. LoadsFile (R.files folder.now) name.now buf.old buf.new n) }
     ensures untouched { OnErr result (buf.new ≡ buf.old) }
 {
-    match folder.open_file(name) {
+    match folder.open_reader(name) {
         Ok(file) => fill(alloc, &mut ReaderSource::new(file), buf),
         Err(error) if error.kind() == io::ErrorKind::NotFound => Ok(0),
         Err(_) => Err(Failed),
@@ -141,12 +141,12 @@ fn make_file<R: Folder>(folder: &mut R, name: &str, bytes: &[u8]) -> Result<(), 
     ensures made { OnOk result (WhereTold (R.files folder.old) (R.files folder.new) (IsMade name.now bytes.now)) }
     ensures torn { OnErr result (WhereTold (R.files folder.old) (R.files folder.new) (IsTouched name.now)) }
 {
-    let _ = folder.remove_file(name);
-    let Ok(mut file) = folder.create_file(name) else {
+    let _ = folder.remove(name);
+    let Ok(mut file) = folder.open_writer(name) else {
         return Err(Failed);
     };
     file.put(bytes)?;
-    match folder.keep_file(&file) {
+    match folder.keep(&file) {
         Ok(()) => Ok(()),
         Err(_) => Err(Failed),
     }

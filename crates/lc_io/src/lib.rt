@@ -5,8 +5,10 @@
 //! `MemoryVault` and `MemoryWatcher` are forms in memory, for tests: what they give, keep and refuse is
 //! said when they are made.
 //! `ReaderSource` and `WriterSink` are made of any reader and any writer, `FolderVault` of two
-//! files. `read_to_limit` and `write_whole` are the two loops over a source and a sink. `Gate` has
-//! no contract; `OpenGate` does nothing.
+//! files of a `Folder`, which is a trait too: it says what opening, making, keeping, renaming and
+//! removing a file do, and what the library offers as `Files` is a folder. `read_to_limit` and
+//! `write_whole` are the two loops over a source and a sink. `Gate` has no contract; `OpenGate`
+//! does nothing.
 #![tactic(auto)]
 
 mod adapters;

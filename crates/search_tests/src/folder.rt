@@ -1,5 +1,5 @@
 //! What a vault of two files asks of its folder, call by call, and that it keeps long slots whole.
-use lc_io::{Failed, FolderVault, NoMemory, Slot, Vault};
+use lc_io::{Failed, Folder, FolderVault, NoMemory, Slot, Vault};
 use std::alloc::{Allocator, Global};
 use std::cell::Cell;
 use std::fs::{File, Metadata, OpenFile, OpenOptions};
@@ -237,5 +237,18 @@ fn a_folder_vault_keeps_long_slots_whole(rt: HostRuntime) -> Result<(), Fail> {
     assert!(rt; are_long(rt.clone()?, rt.alloc(), &zero, &one)?);
     fs::remove_file(&rt, "long.slot0")?;
     fs::remove_file(&rt, "long.slot1")?;
+    Ok(())
+}
+
+fn finds<R: Folder>(folder: &R, name: &str) -> bool {
+    folder.look_for(name).is_ok()
+}
+
+#[test]
+fn a_folder_finds_a_file_that_is_there(rt: HostRuntime) -> Result<(), Fail> {
+    assert!(rt; !finds(&rt, "found.file"));
+    fs::File::create(&rt, "found.file")?;
+    assert!(rt; finds(&rt, "found.file") && !finds(&rt, "found"));
+    fs::remove_file(&rt, "found.file")?;
     Ok(())
 }
