@@ -479,6 +479,8 @@ def at_each_call(checks, program, call, what):
             before = traced(call, '/dev/null', '-e', 'inject=%s:%s:when=%d' % (call, what, number))
             status, out, _ = folder.session('run', 'keep=yes', before=before)
             name = '%s %d %s: status %d' % (call, number, what, status)
+            if call in ('fsync', 'rename') and what.startswith('error'):
+                checks.that(status == VAULT_FAULT, name + ', passed over')
             checks.that(out == text if status == DONE else text.startswith(out), name + ', or another text')
             checks.that(all(is_sealed(slot) for slot in folder.both() if slot), name + ', and a slot that is no checkpoint')
             again, out, _ = folder.session('resume', 'keep=yes')
