@@ -155,7 +155,11 @@ a_sink_that_is_not_used() { ends 0 '' writes_nothing_to_a_full_device; }
 a_word_that_is_no_text() { ends 2 'codes: word 0 refused' asks_in_other_bytes && [ ! -s "$room/out" ]; }
 help_into_a_full_device() { ends 5 'codes: sink fault' asks_into_a_full_device; }
 help_says_where_to_look() { ends 0 '' asks --help && grep -q 'codes run' "$room/out" && grep -q 'docs/SCRIPT.md' "$room/out"; }
-version_is_one_line() { ends 0 '' asks --version && [ "$(grep -cE '^codes [0-9]+\.[0-9]+\.[0-9]+$' "$room/out")" = 1 ] && [ "$(wc -l <"$room/out")" -eq 1 ]; }
+# the version is the last one that CHANGELOG.md has
+version_is_one_line() { ends 0 '' asks --version && cmp "$room/out" - <<<"codes $(sed -n 's/^## \([0-9.]*\), .*/\1/p' CHANGELOG.md | head -n 1)"; }
+
+# where there is a C compiler
+refuses_memory() { ! command -v cc gcc clang >/dev/null || python3 -B tests/refused_memory.py "$program" 24; }
 
 check_outside() {
     check 'a source that fails: status 4' a_source_that_fails
@@ -164,7 +168,7 @@ check_outside() {
     check 'a word that is no UTF-8: status 2' a_word_that_is_no_text
     check '--help names the command and the documents' help_says_where_to_look
     check '--help into a full device: status 5' help_into_a_full_device
-    check '--version is one line' version_is_one_line
+    check '--version is one line, with the version of CHANGELOG.md' version_is_one_line
 }
 
 # agrees KIND COUNT: on so many scripts that are made at random the program and the reference program give the same
@@ -375,6 +379,7 @@ check_sessions() {
     check 'a search in 200 random ranges, by jobs that are killed, and joined' python3 -B tests/parts.py "$program"
     check 'sessions that are killed, stopped, cut in slices and resumed' python3 -B tests/sessions.py "$program"
     check 'streams and folders that fail, and scripts at the limits of the language' python3 -B tests/hostile.py "$program"
+    check 'sessions to which memory is refused at one of their first growths' refuses_memory
     check '2,000 changed checkpoints: the program and tools/checkpoints.py agree' python3 -B tools/checkpoints.py "$program" 2000
 }
 

@@ -14,7 +14,7 @@ Each answer must be that of the session with its text, or status 7 with no text 
 anything else. After a session with keep=yes each slot must be empty or hold a whole checkpoint, the newest one that of
 the last record at least, and `resume` must print the text, or find no checkpoint if none was told. Prints a line for each
 session with its growths and how many were refused, for each check that fails, and at the end 'N passed, M failed'. It runs
-some minutes, and is no part of the gate. It needs Linux and the C library of GNU.
+some minutes; the gate has it refuse 24 growths of each session. It needs Linux and the C library of GNU.
 """
 import hashlib
 import os
