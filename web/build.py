@@ -102,7 +102,7 @@ def examples():
 
 
 def version():
-    return re.search(r'const VERSION: &str = "codes ([\d.]+)', text_of(TOP / "crates/codes/src/main.rt")).group(1)
+    return re.search(r'const VERSION: &str = "codes ([\d.]+)', text_of(TOP / "crates/codes/src/texts.rt")).group(1)
 
 
 # --- the page

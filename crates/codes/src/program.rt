@@ -4,28 +4,28 @@ ghost use Rattle.std.specs.Process.{exit_status};
 ghost use Rattle.lc_arguments.specs.Asked.{words_of};
 ghost use Rattle.lc_rounds.specs.Surroundings.{seen, seen_after};
 ghost use Rattle.lc_text.specs.Worlds.{outside_of};
+ghost use Rattle.codes.specs.declared.texts.TheConstants.{HELP, VERSION};
 ghost use Rattle.codes.specs.Program.{asked_by, first_asks, IsAnswer, IsEnded, IsNoted, IsProgram, notes_of};
 
 use crate::arguments::CommandLine;
 use crate::ending::Ending;
+use crate::texts::{HELP, VERSION};
 use lc_io::{OpenGate, Sink, Source, Vault, Watcher, write_whole};
 use lc_join::join_parts;
 use lc_json::is_same;
 use lc_rounds::Surroundings;
-use lc_session::{Status, run_session_over, told_text};
+use lc_session::{Runtime, Status, run_session_over, told_text};
 use lc_share::run_part;
 use std::alloc::Global;
 use std::process::ExitCode;
 use std::thread::Threads;
 
 /// What the program is run with, beside its streams, its slots and its watchers: where it takes memory, the handle that starts
-/// threads, the texts of `--help` and of `--version`, and the command line.
+/// threads, and the command line.
 #[derive(Drop)]
 pub(crate) struct Host<'a, R> {
     pub(crate) alloc: Global,
     pub(crate) threads: &'a R,
-    pub(crate) help: &'a str,
-    pub(crate) version: &'a str,
     pub(crate) line: CommandLine,
 }
 
@@ -57,27 +57,26 @@ fn answer<R: Threads + Sync, S: Source, K: Sink, V: Vault, W: Watcher>(
     sink: &mut K,
     surroundings: Surroundings<'_, V, W>,
 ) -> Ending
-    ensures is { IsAnswer host.now.help.now host.now.version.now (words_of arguments.now)
+    ensures is { IsAnswer HELP.now VERSION.now (words_of arguments.now)
         (outside_of (S.rest source.old) (S.faults source.old) (K.written sink.old) (K.faults sink.old)
         (seen V.Vault W.Watcher surroundings.entry))
         (outside_of (S.rest source.new) (S.faults source.new) (K.written sink.new) (K.faults sink.new)
         (seen_after V.Vault W.Watcher surroundings.exit)) result }
 {
-    if let Some(status) = told_text(arguments, host.help, host.version, sink) {
+    if let Some(status) = told_text(arguments, HELP, VERSION, sink) {
         return Ending::Session(status);
     }
-    let (threads, alloc, gate) = (host.threads, host.alloc, &OpenGate);
+    let (rt, alloc, gate) = (host.threads, host.alloc, &OpenGate);
+    let runtime = Runtime { rt, alloc, gate };
     match first_of(arguments) {
-        First::Part => Ending::Part(run_part(threads, alloc, arguments, source, sink, gate)),
+        First::Part => Ending::Part(run_part(rt, alloc, arguments, source, sink, gate)),
         First::Join => Ending::Join(join_parts(alloc, arguments, source, sink)),
         First::Other => Ending::Session(run_session_over(
-            threads,
-            alloc,
+            &runtime,
             arguments,
             source,
             sink,
             surroundings,
-            gate,
         )),
     }
 }
@@ -101,7 +100,7 @@ pub(crate) fn program<R: Threads + Sync, S: Source, K: Sink, V: Vault, W: Watche
     surroundings: Surroundings<'_, V, W>,
     errors: &mut E,
 ) -> ExitCode
-    ensures is { IsProgram host.now.help.now host.now.version.now host.now.line
+    ensures is { IsProgram HELP.now VERSION.now host.now.line
         (outside_of (S.rest source.old) (S.faults source.old) (K.written sink.old) (K.faults sink.old)
         (seen V.Vault W.Watcher surroundings.entry))
         (outside_of (S.rest source.new) (S.faults source.new) (K.written sink.new) (K.faults sink.new)

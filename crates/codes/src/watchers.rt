@@ -1,15 +1,11 @@
 //! The watchers of the program.
-ghost use Rattle.std.specs.Prelude.{◌≡◌, ◌≢◌, ◌<◌, ◌↔◌, None, IsOk, IsSome};
-ghost use Rattle.std.specs.Io.KnownBytes.{Appends};
-ghost use Rattle.lc_io.specs.Folders.{Known};
-ghost use Rattle.lc_io.specs.Outside.{AppendsPart, HasRisen};
+ghost use Rattle.std.specs.Prelude.{◌≡◌, ◌≢◌, ◌<◌, ◌↔◌, None, IsOk};
 ghost use Rattle.lc_io.specs.Watchers.{AnswersFrom, HearsUnlessLeft, pauses_after};
-ghost use Rattle.codes.specs.Files.{stop_file};
 ghost use Rattle.codes.specs.Lines.{record_line};
+ghost use Rattle.codes.specs.Watching.{LooksForStop, pauses_of, WasTold, WritesLine};
 
 use lc_arguments::{Line, push_numbered};
 use lc_io::{Advice, Folder, Record, Watcher, WriterSink, write_whole};
-use std::fs::Metadata;
 use std::io;
 use std::io::Write;
 
@@ -29,7 +25,7 @@ fn line_of(note: &Record) -> Line
 
 /// Writes a line for each record, and leaves after the first write that fails. It takes no memory.
 #[derive(Drop)]
-pub(crate) struct LineWatcher<W: Write + Drop> {
+pub(crate) struct LineWatcher<W> {
     sink: WriterSink<W>,
 }
 
@@ -57,12 +53,7 @@ impl<W: Write + Drop> Watcher for LineWatcher<W> {
         ensures coming { AnswersFrom None result None }
         ensures heard { HearsUnlessLeft None note.now result None }
         ensures pauses { 0 ≡ pauses_after 0 result }
-        ensures written { result ≡ Advice.Go →
-            Appends (W.contents self.old.sink.inner) (W.contents self.new.sink.inner) (record_line note.now)
-            × (self.new.sink.faults ≡ self.old.sink.faults) }
-        ensures left { result ≡ Advice.Leave →
-            AppendsPart (W.contents self.old.sink.inner) (W.contents self.new.sink.inner) (record_line note.now)
-            × HasRisen self.old.sink.faults self.new.sink.faults }
+        ensures told { WritesLine W.contents note.now self.old self.new result }
     {
         match write_whole(&mut self.sink, line_of(note).as_bytes()) {
             Ok(()) => Advice::Go,
@@ -77,7 +68,7 @@ impl<W: Write + Drop> Watcher for LineWatcher<W> {
 
 /// Pauses while there is a file `codes.stop` in its folder.
 #[derive(Drop)]
-pub(crate) struct StopWatcher<R: Folder + Drop> {
+pub(crate) struct StopWatcher<R> {
     folder: R,
     pauses: u64,
 }
@@ -94,7 +85,7 @@ impl<R: Folder + Drop> StopWatcher<R> {
     }
 
     // Pauses if the file was found, and as long as the pauses can be counted.
-    fn advise(&mut self, found: io::Result<Metadata>) -> Advice
+    fn advise(&mut self, found: io::Result<()>) -> Advice
         ensures pauses { self.new.pauses ≡ pauses_after self.old.pauses result }
         ensures stops { (result ≡ Advice.Pause) ↔ (IsOk found × (self.old.pauses < 18446744073709551615)) }
         ensures stays { result ≢ Advice.Leave }
@@ -121,13 +112,46 @@ impl<R: Folder + Drop> Watcher for StopWatcher<R> {
         ensures coming { AnswersFrom None result None }
         ensures heard { HearsUnlessLeft None _note.now result None }
         ensures pauses { self.new.pauses ≡ pauses_after self.old.pauses result }
-        ensures stays { result ≢ Advice.Leave }
-        ensures stops { Known (R.files self.old.folder) (λ files. (result ≡ Advice.Pause)
-            ↔ (IsSome (files stop_file) × (self.old.pauses < 18446744073709551615))) }
-        ensures same { self.new.folder ≡ self.old.folder }
+        ensures told { LooksForStop R.files self.old self.new result }
     {
         let found = self.folder.look_for(STOP_FILE);
         self.advise(found)
+    }
+
+    fn heard_at(&self, _at: u64) -> Option<Record> {
+        None
+    }
+}
+
+/// One of the two watchers of the program.
+#[derive(Drop)]
+pub(crate) enum ProgramWatcher<W, R> {
+    /// The one that writes a line for each record.
+    Lines(LineWatcher<W>),
+    /// The one that pauses while there is a file `codes.stop`.
+    Stop(StopWatcher<R>),
+}
+
+impl<W: Write + Drop, R: Folder + Drop> Watcher for ProgramWatcher<W, R> {
+    ghost use Rattle.std.specs.Prelude.{None};
+    ghost use Rattle.codes.specs.Watching.{pauses_of};
+
+    ghost heard = { λ w. None };
+
+    ghost coming = { λ w. None };
+
+    ghost pauses = { λ w. pauses_of w };
+
+    fn told(&mut self, note: &Record) -> Advice
+        ensures coming { AnswersFrom None result None }
+        ensures heard { HearsUnlessLeft None note.now result None }
+        ensures pauses { pauses_of self.new ≡ pauses_after (pauses_of self.old) result }
+        ensures told { WasTold W.contents R.files note.now self.old self.new result }
+    {
+        match self {
+            ProgramWatcher::Lines(watcher) => watcher.told(note),
+            ProgramWatcher::Stop(watcher) => watcher.told(note),
+        }
     }
 
     fn heard_at(&self, _at: u64) -> Option<Record> {

@@ -4,3 +4,4 @@ pub mod FolderLaws
 pub mod SeveralRecords
 pub mod MemoryExamples
 pub mod WatcherExamples
+mod MemoryLaws

@@ -4,3 +4,4 @@ pub mod Folders
 pub mod Watchers
 pub mod Told
 pub mod Memory
+pub mod MemoryFolders

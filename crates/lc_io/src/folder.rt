@@ -7,7 +7,7 @@ ghost use Rattle.lc_io.specs.Vaults.{WhereTold};
 ghost use Rattle.lc_io.specs.Folders.{Known, IsNew, IsWrittenOn, KeepsName, Opens, IsKept, TouchesOnly, IsTouched, IsMoved, IsMovedOrNot};
 
 use crate::{Failed, WriterSink, write_whole};
-use std::fs::{Files, Metadata, OpenFile};
+use std::fs::{Files, OpenFile};
 use std::io::{ErrorKind, Read, Write};
 use std::{fs, io};
 
@@ -70,7 +70,7 @@ pub trait Folder {
             (WhereTold (files self.old) (files self.new) (IsMovedOrNot from.now to.now)) };
 
     /// Looks for a file. The answer is an error exactly if there is none, in a folder that tells what it holds.
-    fn look_for(&self, name: &str) -> io::Result<Metadata>
+    fn look_for(&self, name: &str) -> io::Result<()>
         ensures { Known (files self.now) (λ contents. IsOk result ↔ IsSome (contents name.now)) };
 }
 
@@ -120,7 +120,8 @@ impl<R: Files> Folder for R {
         fs::rename(self, from, to)
     }
 
-    fn look_for(&self, name: &str) -> io::Result<Metadata> {
-        fs::metadata(self, name)
+    fn look_for(&self, name: &str) -> io::Result<()> {
+        fs::metadata(self, name)?;
+        Ok(())
     }
 }

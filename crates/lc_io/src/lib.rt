@@ -2,8 +2,8 @@
 //! kept, who hears the records of a search, and what a worker passes before it reports.
 //!
 //! `Source`, `Sink`, `Vault` and `Watcher` say what a call may do. `MemorySource`, `MemorySink`,
-//! `MemoryVault` and `MemoryWatcher` are forms in memory, for tests: what they give, keep and refuse is
-//! said when they are made.
+//! `MemoryVault`, `MemoryWatcher` and `MemoryFolder` are forms in memory, for tests: what they give, keep and
+//! refuse is said when they are made.
 //! `ReaderSource` and `WriterSink` are made of any reader and any writer, `FolderVault` of two
 //! files of a `Folder`, which is a trait too: it says what opening, making, keeping, renaming and
 //! removing a file do, and what the library offers as `Files` is a folder. `read_to_limit` and
@@ -18,6 +18,7 @@ mod folder_vault;
 mod gate;
 mod input;
 mod loops;
+mod memory_folder;
 mod memory_vault;
 mod memory_watcher;
 mod output;
@@ -31,6 +32,7 @@ pub use folder_vault::FolderVault;
 pub use gate::{Gate, OpenGate};
 pub use input::MemorySource;
 pub use loops::{ReadRefusal, read_to_limit, write_whole};
+pub use memory_folder::{MemoryFile, MemoryFolder};
 pub use memory_vault::MemoryVault;
 pub use memory_watcher::MemoryWatcher;
 pub use output::MemorySink;

@@ -9,6 +9,6 @@ mod summary;
 mod texts;
 
 pub use lc_arguments::{Command, OptionRefusal, Settings, options};
-pub use session::{run_session, run_session_over};
+pub use session::{Runtime, run_session, run_session_over};
 pub use status::{Status, status_line};
 pub use texts::told_text;

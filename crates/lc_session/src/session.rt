@@ -21,6 +21,17 @@ use lc_rounds::{Crew, Surroundings};
 use std::alloc::Global;
 use std::thread::Threads;
 
+/// What a session runs with.
+#[derive(Drop)]
+pub struct Runtime<'a, R, G> {
+    /// What starts the threads of its searches.
+    pub rt: &'a R,
+    /// What memory comes from.
+    pub alloc: Global,
+    /// The gate that the workers of its searches pass.
+    pub gate: &'a G,
+}
+
 /// Runs a session as `run_session` does, over watchers of any type; they and the vault come as one struct.
 pub fn run_session_over<
     R: Threads + Sync,
@@ -30,13 +41,11 @@ pub fn run_session_over<
     W: Watcher,
     G: Gate + Sync,
 >(
-    rt: &R,
-    alloc: Global,
+    runtime: &Runtime<'_, R, G>,
     arguments: &[String],
     source: &mut S,
     sink: &mut K,
     surroundings: Surroundings<'_, V, W>,
-    gate: &G,
 ) -> Status
     ensures session { IsSession built_calls (words_of arguments.now)
         (outside_of (S.rest source.old) (S.faults source.old) (K.written sink.old) (K.faults sink.old)
@@ -46,21 +55,21 @@ pub fn run_session_over<
     ensures nothing { (asked : Settings) → options all_options (words_of arguments.now) ≡ settings asked →
         asked.command ≡ line.run → S.rest source.old ≡ Some [] → (told : ℕ) → result ≢ Status.NoMemory told }
 {
-    let asked = match options(alloc, arguments) {
+    let asked = match options(runtime.alloc, arguments) {
         Ok(asked) => asked,
         Err(OptionRefusal::Usage(index)) => return Status::Usage(index),
         Err(OptionRefusal::NoMemory) => return Status::NoMemory { told: 0 },
     };
     let crew = Crew {
-        rt,
-        alloc,
+        rt: runtime.rt,
+        alloc: runtime.alloc,
         workers: asked.workers,
-        gate,
+        gate: runtime.gate,
     };
     match asked.command {
         Command::Run => run(&crew, asked, source, sink, surroundings),
         Command::Resume => resume(&crew, asked, source, sink, surroundings),
-        Command::Check => check(alloc, asked, source, sink),
+        Command::Check => check(runtime.alloc, asked, source, sink),
         Command::Summary => summary(&crew, asked, sink, surroundings),
     }
 }
@@ -109,6 +118,7 @@ pub fn run_session<R: Threads + Sync, S: Source, K: Sink, V: Vault, G: Gate + Sy
     ensures nothing { (asked : Settings) → options all_options (words_of arguments.now) ≡ settings asked →
         asked.command ≡ line.run → S.rest source.old ≡ Some [] → (told : ℕ) → result ≢ Status.NoMemory told }
 {
+    let runtime = Runtime { rt, alloc, gate };
     let surroundings = Surroundings { vault, watchers };
-    run_session_over(rt, alloc, arguments, source, sink, surroundings, gate)
+    run_session_over(&runtime, arguments, source, sink, surroundings)
 }

@@ -1,5 +1,5 @@
 //! What a vault of two files asks of its folder, call by call, and that it keeps long slots whole.
-use lc_io::{Failed, Folder, FolderVault, NoMemory, Slot, Vault};
+use lc_io::{Failed, Folder, FolderVault, MemoryFolder, NoMemory, Slot, Vault};
 use std::alloc::{Allocator, Global};
 use std::cell::Cell;
 use std::fs::{File, Metadata, OpenFile, OpenOptions};
@@ -28,18 +28,20 @@ enum Call {
     Rename(Name, Name),
 }
 
-// The first eight calls, and how many there were.
+// The first eight calls, how many there were, and whether the disk can be waited for.
 #[derive(Drop)]
 struct Calls {
     first: Cell<[Call; 8]>,
     count: Cell<usize>,
+    syncs: bool,
 }
 
 impl Calls {
-    fn new() -> Calls {
+    fn new(syncs: bool) -> Calls {
         Calls {
             first: Cell::new([Call::Nothing; 8]),
             count: Cell::new(0),
+            syncs,
         }
     }
 
@@ -110,6 +112,9 @@ impl OpenFile for NotingFile<'_> {
 
     fn sync_all(&self) -> io::Result<()> {
         self.calls.note(Call::Sync);
+        if !self.calls.syncs {
+            return Err(io::Error::from(io::ErrorKind::StorageFull));
+        }
         self.file.sync_all()
     }
 
@@ -198,10 +203,29 @@ fn are_asked(rt: HostRuntime, alloc: Global, calls: &Calls) -> Result<bool, NoMe
 
 #[test]
 fn a_store_makes_a_new_file_writes_it_syncs_it_and_renames_it(rt: HostRuntime) -> Result<(), Fail> {
-    let calls = Calls::new();
+    let calls = Calls::new(true);
     assert!(rt; are_asked(rt.clone()?, rt.alloc(), &calls)?);
     assert!(rt; calls.first.get() == ASKED && calls.count.get() == 8);
     fs::remove_file(&rt, "noting.slot1")?;
+    Ok(())
+}
+
+// Whether a store fails, after which the slot is empty.
+fn is_unstored<V: Vault>(vault: &mut V) -> bool {
+    vault.store(Slot::One, b"abc") == Err(Failed) && vault.load(Slot::One, &mut [0; 4]) == Ok(0)
+}
+
+fn is_refused(rt: HostRuntime, alloc: Global, calls: &Calls) -> Result<bool, NoMemory> {
+    let folder = NotingFolder { rt, calls };
+    let mut vault = FolderVault::new(folder, alloc, "unsynced.slot0", "unsynced.slot1")?;
+    Ok(is_unstored(&mut vault))
+}
+
+#[test]
+fn a_store_fails_if_the_disk_cannot_be_waited_for(rt: HostRuntime) -> Result<(), Fail> {
+    let calls = Calls::new(false);
+    assert!(rt; is_refused(rt.clone()?, rt.alloc(), &calls)?);
+    fs::remove_file(&rt, "unsynced.slot1.new")?;
     Ok(())
 }
 
@@ -250,5 +274,46 @@ fn a_folder_finds_a_file_that_is_there(rt: HostRuntime) -> Result<(), Fail> {
     fs::File::create(&rt, "found.file")?;
     assert!(rt; finds(&rt, "found.file") && !finds(&rt, "found"));
     fs::remove_file(&rt, "found.file")?;
+    Ok(())
+}
+
+// The number of a call that fails, whether the second store then fails, and the bytes that its slot has. The first store makes the
+// calls 1 to 4, and the second 5 to 8: to remove, make, keep and rename. That there is nothing to remove is no fault.
+const FAULTS: [(u64, bool, &[u8]); 5] = [
+    (5, false, b"second"),
+    (6, true, b"first"),
+    (7, true, b"first"),
+    (8, true, b"first"),
+    (9, false, b"second"),
+];
+
+fn has<V: Vault>(vault: &mut V, slot: Slot, bytes: &[u8]) -> bool {
+    let mut buf = [0; 8];
+    vault.load(slot, &mut buf) == Ok(bytes.len()) && buf.starts_with(bytes)
+}
+
+// Whether the second store does so, the third one succeeds, and the other slot stays empty.
+fn stores<V: Vault>(vault: &mut V, fails: bool, left: &[u8]) -> bool {
+    vault.store(Slot::Zero, b"first") == Ok(())
+        && vault.store(Slot::Zero, b"second").is_err() == fails
+        && has(vault, Slot::Zero, left)
+        && vault.store(Slot::Zero, b"third") == Ok(())
+        && has(vault, Slot::Zero, b"third")
+        && has(vault, Slot::One, b"")
+}
+
+fn are_whole(alloc: Global, call: u64, fails: bool, left: &[u8]) -> Result<bool, NoMemory> {
+    let folder = MemoryFolder::new(alloc, &[call])?;
+    let mut vault = FolderVault::new(folder, alloc, "a", "b")?;
+    Ok(stores(&mut vault, fails, left))
+}
+
+#[test]
+fn a_store_that_fails_at_a_call_leaves_its_slot_whole_and_the_next_one_succeeds(
+    rt: HostRuntime,
+) -> Result<(), Fail> {
+    for (call, fails, left) in &FAULTS {
+        assert!(rt; are_whole(rt.alloc(), *call, *fails, left)?);
+    }
     Ok(())
 }
