@@ -13,7 +13,7 @@ import re
 import sys
 
 ROOT = os.path.dirname(os.path.dirname(os.path.abspath(__file__)))
-TOP = [("lc_session", "run_session"), ("lc_share", "run_part"), ("lc_join", "join_parts"), ("codes", "program")]
+TOP = [("lc_session", "run_session"), ("lc_share", "run_part"), ("lc_join", "join_parts"), ("codes", "run")]
 NAME = re.compile(r"[A-Za-z_][A-Za-z_0-9]*")
 STARTS = re.compile(r"^(?:unfoldable |abbrev )?(?:pub )?(?:(record|data) )?([A-Za-z_][A-Za-z_0-9]*)\b")
 
