@@ -7,7 +7,7 @@ ghost use Rattle.lc_enumeration.specs.NearWord.{near_best, coset_word_at};
 ghost use Rattle.lc_coset.specs.Near.{near_left, AreLefts, IsRoomOf};
 ghost use Rattle.lc_coset.specs.Phase.{IsFrame, IsPhaseOf, IsPlaceOf, IsBestAt};
 
-use crate::blocks::CosetPhase;
+use crate::blocks::{CosetPhase, PhaseBlocks};
 use crate::frame::Frame;
 use crate::walk::{Room, go_to, top};
 use lc_enumeration::PLACES;
@@ -53,26 +53,29 @@ pub(crate) fn first_best(
 /// Takes the best word after `count` blocks of a phase more, which the board has found to have this value. `start` blocks of
 /// the phase were done before. It takes no memory.
 pub(crate) fn take_best(
-    frame: &Frame,
-    phase: CosetPhase,
+    blocks: &PhaseBlocks<'_>,
     start: u64,
     count: u64,
     value: u64,
     best: &mut Best,
     room: &mut Room,
 )
-    requires frame { IsFrame frame.now }
-    requires phase { IsPhaseOf frame.now phase }
-    requires blocks { start + count ≤ phase.blocks }
-    requires value { value ≡ board_value (near_best frame.now.sets frame.now.word (phase.first + start + count)) }
-    requires near { (near_best frame.now.sets frame.now.word (phase.first + start + count)).place < 2 ^ 52 }
-    requires best { IsBestAt frame.now.sets frame.now.word (phase.first + start) best.old }
-    requires room { IsRoomOf frame.now.sets room.old }
-    ensures best { IsBestAt frame.now.sets frame.now.word (phase.first + start + count) best.new }
-    ensures room { IsRoomOf frame.now.sets room.new }
+    requires frame { IsFrame blocks.now.frame.now }
+    requires phase { IsPhaseOf blocks.now.frame.now blocks.now.phase }
+    requires blocks { start + count ≤ blocks.now.phase.blocks }
+    requires value { value ≡ board_value (near_best blocks.now.frame.now.sets blocks.now.frame.now.word
+        (blocks.now.phase.first + start + count)) }
+    requires near { (near_best blocks.now.frame.now.sets blocks.now.frame.now.word
+        (blocks.now.phase.first + start + count)).place < 2 ^ 52 }
+    requires best { IsBestAt blocks.now.frame.now.sets blocks.now.frame.now.word (blocks.now.phase.first + start)
+        best.old }
+    requires room { IsRoomOf blocks.now.frame.now.sets room.old }
+    ensures best { IsBestAt blocks.now.frame.now.sets blocks.now.frame.now.word
+        (blocks.now.phase.first + start + count) best.new }
+    ensures room { IsRoomOf blocks.now.frame.now.sets room.new }
 {
     let place = value % PLACES;
-    put_word(frame, phase, place, best, room);
+    put_word(blocks.frame, blocks.phase, place, best, room);
     best.weight = value / PLACES;
     best.place = place;
 }

@@ -9,11 +9,11 @@ use crate::blocks::{CosetPhase, Desk, PhaseBlocks};
 use crate::frame::Frame;
 use crate::led::{Led, led_of};
 use crate::walk::Room;
-use lc_crew::{hands, run_round};
+use lc_crew::{Crew, run_round};
 use lc_enumeration::PLACES;
 use lc_field::NoMemory;
 use lc_infoset::Sets;
-use lc_io::OpenGate;
+use lc_io::{Gate, OpenGate};
 use lc_kernel::Scratch;
 use std::alloc::Global;
 use std::thread::Threads;
@@ -51,63 +51,49 @@ pub(crate) fn search_phase<R: Threads + Sync>(
     ensures state { IfOk result (λ _. IsStateAt frame.now (phase.first + phase.blocks) state.new) }
 {
     prepare(alloc, frame, phase, state)?;
+    let crew = Crew {
+        rt,
+        alloc,
+        workers,
+        gate: &OpenGate,
+    };
     let mut done: u64 = 0;
     while done < phase.blocks {
         let count = (phase.blocks - done).min(LONGEST_ROUND);
-        search_round(rt, alloc, frame, phase, done, count, workers, state)?;
+        search_round(&crew, frame, phase, done, count, state)?;
         done += count;
     }
     Ok(())
 }
 
 // Does the `count` blocks of a phase after the first `start`.
-fn search_round<R: Threads + Sync>(
-    rt: &R,
-    alloc: Global,
+fn search_round<R: Threads + Sync, G: Gate + Sync>(
+    crew: &Crew<'_, R, G>,
     frame: &Frame,
     phase: CosetPhase,
     start: u64,
     count: u64,
-    workers: u32,
     state: &mut State,
 ) -> Result<(), NoMemory>
     requires frame { IsFrame frame.now }
     requires phase { IsPhaseOf frame.now phase }
-    requires workers { (1 ≤ workers) × (workers ≤ 256) }
     requires count { (1 ≤ count) × (count ≤ 256) }
     requires blocks { start + count ≤ phase.blocks }
     requires state { IsStateAt frame.now (phase.first + start) state.old }
     ensures state { IfOk result (λ _. IsStateAt frame.now (phase.first + start + count) state.new) }
 {
-    provide(alloc, &frame.sets, &state.led, &mut state.spare)?;
+    provide(crew.alloc, &frame.sets, &state.led, &mut state.spare)?;
     let blocks = PhaseBlocks {
         frame,
         phase,
         led: &state.led,
     };
     let first = state.best.weight * PLACES + state.best.place;
-    let Ok(closed) = run_round(
-        rt,
-        alloc,
-        &blocks,
-        start,
-        count,
-        first,
-        hands(workers, count),
-        &mut state.spare,
-        &OpenGate,
-    ) else {
+    let Ok(closed) = run_round(crew, &blocks, start, count, first, &mut state.spare) else {
         return Err(NoMemory);
     };
-    take_best(
-        frame,
-        phase,
-        start,
-        count,
-        closed.best(),
-        &mut state.best,
-        &mut state.own,
-    );
+    let (best, own) = (&mut state.best, &mut state.own);
+    take_best(&blocks, start, count, closed.best(), best, own);
     Ok(())
 }
 

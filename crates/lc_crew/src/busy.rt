@@ -10,7 +10,7 @@ const ALWAYS: u64 = 4;
 /// How many of the workers a round of so many blocks keeps busy: all, but no more than there are blocks, and above four no more
 /// than one for each 64 blocks. So more workers never make a round slower: where there is nothing to do for them, no thread is
 /// started. There are 1 to 256 workers and at least one block.
-pub fn hands(workers: u32, blocks: u64) -> u32
+pub(crate) fn hands(workers: u32, blocks: u64) -> u32
     requires workers { (1 ≤ workers) × (workers ≤ 256) }
     requires some { 1 ≤ blocks }
     ensures some { 1 ≤ result }

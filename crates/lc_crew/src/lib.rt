@@ -11,12 +11,13 @@
 
 mod blocks;
 mod busy;
+mod crew;
 mod halves;
 mod round;
 mod worker;
 
 pub use blocks::Blocks;
-pub use busy::hands;
+pub use crew::Crew;
 pub use lc_board::{NoMemory, RoundResult};
 pub use round::run_round;
-pub use worker::work;
+pub use worker::{Round, work};

@@ -4,7 +4,10 @@ ghost use Rattle.lc_enumeration.specs.Message.{numbers_from};
 ghost use Rattle.lc_crew.specs.Crew.{IsFresh, IsReady, IsDone, IsRootLast, least_over};
 
 use crate::blocks::Blocks;
+use crate::busy::hands;
+use crate::crew::Crew;
 use crate::halves::{Worker, run_list};
+use crate::worker::Round;
 use lc_board::{Board, BoardSeat, NoMemory, RoundResult};
 use lc_io::Gate;
 use std::alloc::Global;
@@ -138,26 +141,22 @@ fn close_all<W: Send + Drop>(
     board.close(seat, seats)
 }
 
-/// Does the `count` blocks from `start` on, by so many workers, and returns what the board shows: the least of `first` and
-/// of the values of these blocks. Each block is done once, and the counts of the rooms that are then in `spare` are together
-/// what these blocks add.
+/// Does the `count` blocks from `start` on, by the workers of a crew, or by fewer where there are few blocks, and returns what
+/// the board shows: the least of `first` and of the values of these blocks. Each block is done once, and the counts of the rooms
+/// that are then in `spare` are together what these blocks add.
 ///
-/// There are 1 to 256 workers, numbered from 0; each passes the gate before each of its reports. One worker starts no thread.
+/// Workers are numbered from 0; each passes the gate before each of its reports. One worker starts no thread.
 /// `start` plus `count` is at most the number of blocks, which is at most 2^40. `spare` holds rooms that were made for these
 /// blocks and whose counts are 0, one at least; those of this round are kept there. All memory is taken before the first claim; if there is
 /// none, no block is done.
 pub fn run_round<R: Threads + Sync, G: Gate + Sync, B: Blocks + Sync>(
-    rt: &R,
-    alloc: Global,
+    crew: &Crew<'_, R, G>,
     blocks: &B,
     start: u64,
     count: u64,
     first: u64,
-    workers: u32,
     spare: &mut Vec<B::Room>,
-    gate: &G,
 ) -> Result<RoundResult, NoMemory>
-    requires workers { (1 ≤ workers) × (workers ≤ 256) }
     requires count { count ≤ 2 ^ 40 }
     requires few { B.total blocks.now ≤ 2 ^ 40 }
     requires blocks { start + count ≤ B.total blocks.now }
@@ -172,10 +171,17 @@ pub fn run_round<R: Threads + Sync, G: Gate + Sync, B: Blocks + Sync>(
         ≡ sum_by (λ b. B.share blocks.now b j) (numbers_from start count)) }
     ensures no_memory { OnErr result (All (IsFresh (B.fits blocks.now) (B.tally blocks.now)) spare.new.items) }
 {
-    let (board, root) = Board::open(alloc, count, first)?;
-    let seats = Vec::with_capacity(alloc, workers as usize)?;
-    provide(alloc, blocks, spare, workers)?;
-    let mut list = hire(alloc, blocks, &board, root, workers, spare)?;
-    run_list(rt, blocks, start, &board, gate, &mut list);
+    let workers = hands(crew.workers, count.max(1));
+    let (board, root) = Board::open(crew.alloc, count, first)?;
+    let seats = Vec::with_capacity(crew.alloc, workers as usize)?;
+    provide(crew.alloc, blocks, spare, workers)?;
+    let mut list = hire(crew.alloc, blocks, &board, root, workers, spare)?;
+    let round = Round {
+        blocks,
+        start,
+        board: &board,
+        gate: crew.gate,
+    };
+    run_list(crew.rt, &round, &mut list);
     Ok(close_all(board, list, seats, spare))
 }

@@ -7,6 +7,20 @@ use crate::blocks::Blocks;
 use lc_board::{Board, BoardSeat};
 use lc_io::Gate;
 
+/// What the workers of a round share: the blocks, of which the round does those from `start` on, the board that they draw
+/// their numbers on, counted from `start`, and the gate that each of them passes before its reports.
+#[derive(Drop)]
+pub struct Round<'a, B, G> {
+    /// The blocks.
+    pub blocks: &'a B,
+    /// The first block of the round.
+    pub start: u64,
+    /// The board of the round. Its number x stands for the block `start` + x.
+    pub board: &'a Board,
+    /// The gate that the workers pass.
+    pub gate: &'a G,
+}
+
 /// Claims numbers until None comes. For each claimed number x it passes the gate, with the worker's number and the block
 /// `start` + x, and then reports x with the value of that block, whose share is added to the counts of the room.
 ///
@@ -15,28 +29,26 @@ use lc_io::Gate;
 /// doesn't wait.
 #[tactic(auto, using(crate::proofs::WorkLaws::work_laws))]
 pub fn work<B: Blocks, G: Gate + Sync>(
-    blocks: &B,
-    start: u64,
-    board: &Board,
+    round: &Round<'_, B, G>,
     seat: &mut BoardSeat,
     worker: u32,
     room: &mut B::Room,
-    gate: &G,
 )
-    requires seat { (seat.old.table ≡ board.now.table) × AllReported seat.old.view.book }
-    requires blocks { start + board.now.count ≤ B.total blocks.now }
-    requires few { B.total blocks.now ≤ 2 ^ 40 }
-    requires room { B.fits blocks.now room.old }
-    requires low { (j : ℕ) → B.tally blocks.now room.old j ≤ 2 ^ 52 }
+    requires seat { (seat.old.table ≡ round.now.board.now.table) × AllReported seat.old.view.book }
+    requires blocks { round.now.start + round.now.board.now.count ≤ B.total round.now.blocks.now }
+    requires few { B.total round.now.blocks.now ≤ 2 ^ 40 }
+    requires room { B.fits round.now.blocks.now room.old }
+    requires low { (j : ℕ) → B.tally round.now.blocks.now room.old j ≤ 2 ^ 52 }
     ensures table { seat.new.table ≡ seat.old.table }
-    ensures worked { HasWorked (λ x. B.value blocks.now (start + x))
-        (λ x. B.share blocks.now (start + x)) board.now.count seat.old.view (B.tally blocks.now room.old) seat.new.view
-        (B.tally blocks.now room.new) }
-    ensures room { B.fits blocks.now room.new }
+    ensures worked { HasWorked (λ x. B.value round.now.blocks.now (round.now.start + x))
+        (λ x. B.share round.now.blocks.now (round.now.start + x)) round.now.board.now.count seat.old.view
+        (B.tally round.now.blocks.now room.old) seat.new.view (B.tally round.now.blocks.now room.new) }
+    ensures room { B.fits round.now.blocks.now room.new }
 {
-    while let Some(number) = board.claim(seat) {
-        let block = start + number;
-        gate.before_report(worker, block);
-        board.report(seat, number, blocks.value_of(block, room));
+    while let Some(number) = round.board.claim(seat) {
+        let block = round.start + number;
+        round.gate.before_report(worker, block);
+        let value = round.blocks.value_of(block, room);
+        round.board.report(seat, number, value);
     }
 }

@@ -10,13 +10,13 @@ ghost use Rattle.lc_part_search.specs.Done.{IsInside, IsDoneFor};
 
 use crate::done::Done;
 use lc_code::Code;
-use lc_crew::hands;
+use lc_crew::Crew;
 use lc_field::NoMemory;
 use lc_infoset::Sets;
 use lc_io::Gate;
 use lc_parts::{Facts, Part};
 use lc_place::Plan;
-use lc_search::{find_in_round, plan_of, sets_of, weight_at};
+use lc_search::{Best, SearchBlocks, find_in_round, plan_of, sets_of, weight_at};
 use std::alloc::Global;
 use std::thread::Threads;
 
@@ -66,89 +66,81 @@ fn is_inside(plan: &Plan, start: u64, count: u64) -> bool
 
 // The least of the word at place 0, whose weight is `first`, and the words of these blocks.
 fn least_of<R: Threads + Sync, G: Gate + Sync>(
-    rt: &R,
-    alloc: Global,
-    sets: &Sets,
-    plan: &Plan,
+    crew: &Crew<'_, R, G>,
+    blocks: &SearchBlocks<'_>,
     start: u64,
     count: u64,
     first: u64,
-    workers: u32,
-    gate: &G,
 ) -> Result<Part, NoMemory>
-    requires plan { plan.now ≡ whole_plan sets.now }
+    requires plan { blocks.now.plan.now ≡ whole_plan blocks.now.sets.now }
     requires some { 1 ≤ count }
-    requires blocks { start + count ≤ total plan.now.k plan.now.q plan.now.m }
-    requires first { (first ≡ (found_first sets.now (set_count sets.now)).weight) × (first ≤ 255) }
-    requires workers { (1 ≤ workers) × (workers ≤ 256) }
+    requires blocks { start + count ≤ total blocks.now.plan.now.k blocks.now.plan.now.q blocks.now.plan.now.m }
+    requires first { (first ≡ (found_first blocks.now.sets.now (set_count blocks.now.sets.now)).weight)
+        × (first ≤ 255) }
     ensures range { IfOk result (λ p. (p.start ≡ start) × (p.count ≡ count)) }
-    ensures is_true { IfOk result (λ p. IsTruePart sets.now (part_of p)) }
+    ensures is_true { IfOk result (λ p. IsTruePart blocks.now.sets.now (part_of p)) }
 {
-    let mut spare = Vec::new(alloc);
-    let hands = hands(workers, count);
-    let found = find_in_round(
-        rt, alloc, sets, plan, start, count, first, 0, hands, &mut spare, gate,
-    )?;
+    let mut spare = Vec::new(crew.alloc);
+    let best = Best {
+        weight: first,
+        place: 0,
+    };
+    let found = find_in_round(crew, blocks, start, count, best, &mut spare)?;
     Ok(Part {
         start,
         count,
-        weight: found.weight,
-        place: found.place,
+        weight: found.best.weight,
+        place: found.best.place,
     })
 }
 
 // The part of the plan of these sets, which has it.
 fn done_in<R: Threads + Sync, G: Gate + Sync>(
-    rt: &R,
-    alloc: Global,
-    sets: &Sets,
-    plan: &Plan,
+    crew: &Crew<'_, R, G>,
+    blocks: &SearchBlocks<'_>,
     start: u64,
     count: u64,
-    workers: u32,
-    gate: &G,
 ) -> Result<Done, NoMemory>
-    requires plan { plan.now ≡ whole_plan sets.now }
+    requires plan { blocks.now.plan.now ≡ whole_plan blocks.now.sets.now }
     requires some { 1 ≤ count }
-    requires blocks { start + count ≤ total plan.now.k plan.now.q plan.now.m }
-    requires workers { (1 ≤ workers) × (workers ≤ 256) }
-    ensures is { IfOk result (IsDoneFor sets.now start count) }
+    requires blocks { start + count ≤ total blocks.now.plan.now.k blocks.now.plan.now.q blocks.now.plan.now.m }
+    ensures is { IfOk result (IsDoneFor blocks.now.sets.now start count) }
 {
-    let _some = sets.dimension();
-    let Some(first) = weight_at(alloc, sets, plan, 0)? else {
+    let _some = blocks.sets.dimension();
+    let Some(first) = weight_at(crew.alloc, blocks.sets, blocks.plan, 0)? else {
         unreachable!()
     };
-    let facts = facts_of(alloc, sets, first)?;
-    let part = least_of(rt, alloc, sets, plan, start, count, first, workers, gate)?;
+    let facts = facts_of(crew.alloc, blocks.sets, first)?;
+    let part = least_of(crew, blocks, start, count, first)?;
     Ok(Done { facts, part })
 }
 
-/// Does the `count` blocks from `start` on of the search of a code of dimension at least 1, by so many workers, and returns the
-/// least of the word at place 0 and of the words of these blocks, with what the plan and the bound of the search are made of
+/// Does the `count` blocks from `start` on of the search of a code of dimension at least 1, by the workers of a crew, and returns
+/// the least of the word at place 0 and of the words of these blocks, with what the plan and the bound of the search are made of
 /// (Grassl, Searching for linear codes with large minimum distance). None exactly if `count` is 0 or the plan doesn't have all
 /// of these blocks. Fails if memory runs out.
 ///
-/// The blocks are done in one round, whatever the search would answer on the way. There are 1 to 256 workers, numbered from 0;
-/// each passes the gate before each of its reports. One worker starts no thread. All memory is taken before the first claim.
+/// The blocks are done in one round, whatever the search would answer on the way. Workers are numbered from 0; each passes the
+/// gate before each of its reports. One worker starts no thread. All memory is taken before the first claim.
 pub fn find_part<R: Threads + Sync, G: Gate + Sync>(
-    rt: &R,
-    alloc: Global,
+    crew: &Crew<'_, R, G>,
     code: &Code,
     start: u64,
     count: u64,
-    workers: u32,
-    gate: &G,
 ) -> Result<Option<Done>, NoMemory>
     requires dimension { 0 < length code.now.rows }
-    requires workers { (1 ≤ workers) × (workers ≤ 256) }
     ensures found { IfOk result (λ o. MatchOption o (¬ IsInside code.now start count)
         (λ d. IsInside code.now start count × IsDoneFor code.now start count d)) }
 {
-    let sets = sets_of(alloc, code)?;
-    let plan = plan_of(alloc, &sets)?;
+    let sets = sets_of(crew.alloc, code)?;
+    let plan = plan_of(crew.alloc, &sets)?;
     if !is_inside(&plan, start, count) {
         return Ok(None);
     }
-    let done = done_in(rt, alloc, &sets, &plan, start, count, workers, gate)?;
+    let blocks = SearchBlocks {
+        sets: &sets,
+        plan: &plan,
+    };
+    let done = done_in(crew, &blocks, start, count)?;
     Ok(Some(done))
 }

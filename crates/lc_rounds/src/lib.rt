@@ -3,7 +3,6 @@
 #![tactic(auto)]
 
 mod course;
-mod crew;
 mod keeping;
 mod laws;
 mod need;
@@ -15,7 +14,6 @@ mod starting;
 mod surroundings;
 
 pub use course::Course;
-pub use crew::Crew;
 pub use laws::searches_start_fitting;
 pub use need::{Halt, answer_need};
 pub use pace::Pace;

@@ -13,12 +13,12 @@ ghost use Rattle.lc_rounds.specs.Paces.{IsSame};
 ghost use Rattle.lc_rounds.specs.Going.{World, IsRanged, Goes, IsNext, Halts};
 
 use crate::course::Course;
-use crate::crew::Crew;
 use crate::records::{Answered, begun, passed};
 use crate::rounds::{Stop, search_need};
 use crate::surroundings::Surroundings;
 use lc_checkpoint::Settled;
 use lc_code::Code;
+use lc_crew::Crew;
 use lc_io::{Gate, Vault, Watcher};
 use lc_search::Answer;
 use std::alloc::Global;

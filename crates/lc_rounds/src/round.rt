@@ -8,8 +8,8 @@ ghost use Rattle.lc_search.specs.State.{answer_in};
 ghost use Rattle.lc_session_rules.specs.Session.{record_of};
 ghost use Rattle.lc_rounds.specs.Step.{next_state, after_next, next_step, IsDone, at_round};
 
-use crate::crew::Crew;
 use crate::pace::Pace;
+use lc_crew::Crew;
 use lc_enumeration::PLACES;
 use lc_field::NoMemory;
 use lc_io::{Gate, Record};
@@ -63,14 +63,7 @@ fn next_round<R: Threads + Sync, G: Gate + Sync>(
     let _dimension = sets.dimension();
     let _length = sets.length();
     let limit = limit_of(pace.longest, pace.slice);
-    let round = search.round_within(
-        crew.rt,
-        crew.alloc,
-        crew.workers,
-        pace.longest,
-        limit,
-        crew.gate,
-    )?;
+    let round = search.round_within(crew, pace.longest, limit)?;
     Ok(round)
 }
 

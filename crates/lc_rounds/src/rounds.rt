@@ -9,11 +9,11 @@ ghost use Rattle.lc_rounds.specs.Step.{next_step, after_step, after_next, IsSame
 ghost use Rattle.lc_rounds.specs.Way.{rounds_left, steps_left, Origin, IsOnItsWay, HasStopped, Went};
 ghost use Rattle.lc_rounds.specs.Surroundings.{seen, seen_after};
 
-use crate::crew::Crew;
 use crate::keeping::{Unkept, has_bytes, keep_point};
 use crate::pace::Pace;
 use crate::round::do_round;
 use crate::surroundings::Surroundings;
+use lc_crew::Crew;
 use lc_field::NoMemory;
 use lc_io::{Gate, Vault, Watcher};
 use lc_search::{Answer, Search, tell};

@@ -59,7 +59,7 @@ round_made s plan longest limit e n is f counted =
 
 pub found_made : (C : Matrix) (plan : PlanSize) (start count first weight place w p : ℕ) (closed : Closing) → plan ≡ whole_plan C → start + count ≤ total plan.k plan.q plan.m → place < 2 ^ 52 → first ≡ weight * 2 ^ 52 + place
     → closed.count ≡ count → closed.claimed ≡ count → closed.best ≡ least_over (block_value C plan.m) first start count → w ≡ closed.best / 2 ^ 52 → p ≡ closed.best % 2 ^ 52
-    → IsFoundIn C start count weight place (record { weight = w; place = p; closed = closed })
+    → IsFoundIn C start count weight place (record { best = record { weight = w; place = p }; closed = closed })
 unfolding board_value
 found_made C plan start count first weight place w p closed is inside near value counted claimed best we pe =
     let a : Found = record { weight = weight; place = place } in
@@ -81,13 +81,13 @@ found_made C plan start count first weight place w p closed is inside near value
     }
 
 pub round_after : (s : SearchState) (longest limit done : ℕ) (r : RoundFound) → done ≡ round_length s.code s.budget longest (Some limit) s.progress.blocks → IsFoundIn s.code s.progress.blocks done s.progress.weight s.progress.place r
-    → ◌≡◌ {A = SearchState} (record { code = s.code; budget = s.budget; progress = record { blocks = s.progress.blocks + done; weight = r.weight; place = r.place } }) (after_search_round s longest limit)
+    → ◌≡◌ {A = SearchState} (record { code = s.code; budget = s.budget; progress = record { blocks = s.progress.blocks + done; weight = r.best.weight; place = r.best.place } }) (after_search_round s longest limit)
 unfolding after_search_round after_round progress_of found_of
 round_after s longest limit done r e f =
     let to : ℕ → Found → SearchState = λ n x. record { code = s.code; budget = s.budget; progress = record { blocks = s.progress.blocks + n; weight = x.weight; place = x.place } } in
     ap (to done) f.pair ∙ ap (λ n. to n (least_of (found_of s.progress) (found_from s.code (set_count s.code) s.progress.blocks n))) e
 
 pub value_after : (t : SearchState) (C : Matrix) (budget start count weight place blocks : ℕ) (r : RoundFound) → IsFoundIn C start count weight place r
-    → ◌≡◌ {A = SearchState} t (record { code = C; budget = budget; progress = record { blocks = blocks; weight = r.weight; place = r.place } }) → r.closed.best ≡ board_value (found_of t.progress)
+    → ◌≡◌ {A = SearchState} t (record { code = C; budget = budget; progress = record { blocks = blocks; weight = r.best.weight; place = r.best.place } }) → r.closed.best ≡ board_value (found_of t.progress)
 unfolding found_of
 value_after t C budget start count weight place blocks r f e = f.best ∙ ap (λ (u : SearchState). board_value (found_of u.progress)) (sym e)

@@ -7,12 +7,12 @@ use Rattle.lc_enumeration.specs.Search.{Found, set_count, found_from, least_of, 
 use Rattle.lc_search.specs.declared.round.RoundFound.{RoundFound}
 
 abbrev pub pair_of : RoundFound → Found
-pair_of r = record { weight = r.weight; place = r.place }
+pair_of r = record { weight = r.best.weight; place = r.best.place }
 
 pub record IsFoundIn (C : Matrix) (start count weight place : ℕ) (r : RoundFound) : Type 0 where
   pub pair : pair_of r ≡ least_of (record { weight = weight; place = place }) (found_from C (set_count C) start count)
-  pub lighter : r.weight ≤ weight
-  pub near : r.place < 2 ^ 52
+  pub lighter : r.best.weight ≤ weight
+  pub near : r.best.place < 2 ^ 52
   pub count_is : r.closed.count ≡ count
   pub claimed : r.closed.claimed ≡ count
   pub best : r.closed.best ≡ board_value (pair_of r)

@@ -27,6 +27,15 @@ pub enum Answer {
     },
 }
 
+/// The best word that a search has found.
+#[derive(Clone, Copy, Debug, PartialEq, Eq)]
+pub struct Best {
+    /// The weight of the word.
+    pub weight: u64,
+    /// The place of the word.
+    pub place: u64,
+}
+
 /// What a round tells.
 #[derive(Drop)]
 pub struct RoundRecord {

@@ -6,7 +6,7 @@ ghost use Rattle.lc_kernel.specs.Kernel.{IsPlanOf};
 ghost use Rattle.lc_search.specs.Work.{block_value, HasWorked, IsRoomOf};
 
 use lc_board::{Board, BoardSeat};
-use lc_crew::{Blocks, NoMemory};
+use lc_crew::{Blocks, NoMemory, Round};
 use lc_infoset::Sets;
 use lc_io::Gate;
 use lc_kernel::{Scratch, least};
@@ -15,9 +15,11 @@ use std::alloc::Global;
 
 /// The blocks of a plan of the information sets of a code. The value of a block is that of its least word.
 #[derive(Clone, Copy)]
-pub(crate) struct SearchBlocks<'a> {
-    pub(crate) sets: &'a Sets,
-    pub(crate) plan: &'a Plan,
+pub struct SearchBlocks<'a> {
+    /// The information sets of the code.
+    pub sets: &'a Sets,
+    /// The plan.
+    pub plan: &'a Plan,
 }
 
 impl<'a> Blocks for SearchBlocks<'a> {
@@ -71,6 +73,11 @@ pub fn work<G: Gate + Sync>(
         (start + x)) board.now.count seat.old.view seat.new.view }
     ensures scratch { scratch.new ≡ scratch.old }
 {
-    let blocks = SearchBlocks { sets, plan };
-    lc_crew::work(&blocks, start, board, seat, worker, scratch, gate);
+    let round = Round {
+        blocks: &SearchBlocks { sets, plan },
+        start,
+        board,
+        gate,
+    };
+    lc_crew::work(&round, seat, worker, scratch);
 }

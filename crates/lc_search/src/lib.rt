@@ -12,8 +12,8 @@ mod round;
 mod search;
 mod watching;
 
-pub use answer::{Answer, RoundRecord};
-pub use blocks::work;
+pub use answer::{Answer, Best, RoundRecord};
+pub use blocks::{SearchBlocks, work};
 pub use parts::{plan_of, sets_of, weight_at};
 pub use resume::ResumeRefusal;
 pub use round::{RoundFound, find_in_round};

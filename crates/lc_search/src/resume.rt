@@ -4,6 +4,7 @@ ghost use Rattle.std.specs.Bool.{OnTrue, OnFalse};
 ghost use Rattle.lc_search.specs.Resuming.{IsResumed, IsUnfit};
 ghost use Rattle.lc_search.specs.declared.resume.ResumeRefusal.TheVariants as refusal;
 
+use crate::answer::Best;
 use crate::parts::{plan_of, sets_of, weight_at};
 use crate::search::{Search, search_at};
 use lc_code::Code;
@@ -75,7 +76,8 @@ impl Search {
         if !is_fit(blocks, weight, place, found) {
             return Err(ResumeRefusal::Unfit { found });
         }
-        let search = search_at(alloc, sets, plan, budget, blocks, weight, place)?;
+        let best = Best { weight, place };
+        let search = search_at(alloc, sets, plan, budget, blocks, best)?;
         Ok(search)
     }
 }

@@ -7,15 +7,15 @@ ghost use Rattle.lc_search.specs.State.{whole_plan};
 ghost use Rattle.lc_search.specs.Found.{IsFoundIn};
 ghost use Rattle.lc_crew.specs.Crew.{least_over};
 
+use crate::answer::Best;
 use crate::blocks::SearchBlocks;
 use lc_board::RoundResult;
-use lc_crew::run_round as run_blocks;
+use lc_crew::{Crew, run_round as run_blocks};
 use lc_enumeration::PLACES;
 use lc_field::NoMemory;
 use lc_infoset::Sets;
 use lc_io::Gate;
 use lc_kernel::Scratch;
-use lc_place::Plan;
 use std::alloc::Global;
 use std::thread::Threads;
 
@@ -32,37 +32,30 @@ fn provide(alloc: Global, sets: &Sets, spare: &mut Vec<Scratch>) -> Result<(), N
     Ok(())
 }
 
-/// Does the `count` blocks from `start` on, by so many workers. `first` is the least value before.
+/// Does the `count` blocks from `start` on, by the workers of a crew. `first` is the least value before.
 ///
 /// All memory is taken before the first claim. `spare` holds scratches that earlier rounds made; those of this round are kept
 /// there.
 pub(crate) fn run_round<R: Threads + Sync, G: Gate + Sync>(
-    rt: &R,
-    alloc: Global,
-    sets: &Sets,
-    plan: &Plan,
+    crew: &Crew<'_, R, G>,
+    blocks: &SearchBlocks<'_>,
     start: u64,
     count: u64,
     first: u64,
-    workers: u32,
     spare: &mut Vec<Scratch>,
-    gate: &G,
 ) -> Result<RoundResult, NoMemory>
-    requires workers { (1 ≤ workers) × (workers ≤ 256) }
     requires count { count ≤ 2 ^ 40 }
-    requires plan { IsPlanOf plan.now sets.now }
-    requires blocks { start + count ≤ total plan.now.k plan.now.q plan.now.m }
-    requires spare { All (λ s. s ≡ sets.now) spare.old.items }
-    ensures spare { All (λ s. s ≡ sets.now) spare.new.items }
+    requires plan { IsPlanOf blocks.now.plan.now blocks.now.sets.now }
+    requires blocks { start + count ≤ total blocks.now.plan.now.k blocks.now.plan.now.q blocks.now.plan.now.m }
+    requires spare { All (λ s. s ≡ blocks.now.sets.now) spare.old.items }
+    ensures spare { All (λ s. s ≡ blocks.now.sets.now) spare.new.items }
     ensures count { IfOk result (λ r. r.count ≡ count) }
     ensures claimed { IfOk result (λ r. r.claimed ≡ count) }
-    ensures best { IfOk result (λ r. r.best ≡ least_over (block_value sets.now plan.now.m) first start count) }
+    ensures best { IfOk result (λ r. r.best
+        ≡ least_over (block_value blocks.now.sets.now blocks.now.plan.now.m) first start count) }
 {
-    provide(alloc, sets, spare)?;
-    let blocks = SearchBlocks { sets, plan };
-    let Ok(closed) = run_blocks(
-        rt, alloc, &blocks, start, count, first, workers, spare, gate,
-    ) else {
+    provide(crew.alloc, blocks.sets, spare)?;
+    let Ok(closed) = run_blocks(crew, blocks, start, count, first, spare) else {
         return Err(NoMemory);
     };
     Ok(closed)
@@ -71,50 +64,40 @@ pub(crate) fn run_round<R: Threads + Sync, G: Gate + Sync>(
 /// The best word after a round, and what the board showed.
 #[derive(Drop)]
 pub struct RoundFound {
-    /// The weight of the word.
-    pub weight: u64,
-    /// The place of the word.
-    pub place: u64,
+    /// The best word.
+    pub best: Best,
     /// What the board of the round showed when it was closed.
     pub closed: RoundResult,
 }
 
-/// Does the `count` blocks from `start` on, after which the best word is the least of them and of the one before, whose weight
-/// is at most 255 and whose place is below 2^52. Fails if memory runs out.
+/// Does the `count` blocks from `start` on, after which the best word is the least of them and of the one before, `best`, whose
+/// weight is at most 255 and whose place is below 2^52. Fails if memory runs out.
 ///
-/// The plan goes through all sets and has these blocks, and there are 1 to 256 workers, numbered from 0; each passes the gate
-/// before each of its reports. One worker starts no thread. All memory is taken before the first claim. `spare` holds scratches
-/// that were made for these sets; those of this round are kept there.
+/// The plan goes through all sets and has these blocks. The workers are those of the crew, or fewer where there are few blocks,
+/// numbered from 0; each passes the gate before each of its reports. One worker starts no thread. All memory is taken before the
+/// first claim. `spare` holds scratches that were made for these sets; those of this round are kept there.
 pub fn find_in_round<R: Threads + Sync, G: Gate + Sync>(
-    rt: &R,
-    alloc: Global,
-    sets: &Sets,
-    plan: &Plan,
+    crew: &Crew<'_, R, G>,
+    blocks: &SearchBlocks<'_>,
     start: u64,
     count: u64,
-    weight: u64,
-    place: u64,
-    workers: u32,
+    best: Best,
     spare: &mut Vec<Scratch>,
-    gate: &G,
 ) -> Result<RoundFound, NoMemory>
-    requires workers { (1 ≤ workers) × (workers ≤ 256) }
-    requires plan { plan.now ≡ whole_plan sets.now }
-    requires blocks { start + count ≤ total plan.now.k plan.now.q plan.now.m }
-    requires word { (weight ≤ 255) × (place < 2 ^ 52) }
-    requires spare { All (λ s. s ≡ sets.now) spare.old.items }
-    ensures spare { All (λ s. s ≡ sets.now) spare.new.items }
-    ensures found { IfOk result (λ r. IsFoundIn sets.now start count weight place r) }
+    requires plan { blocks.now.plan.now ≡ whole_plan blocks.now.sets.now }
+    requires blocks { start + count ≤ total blocks.now.plan.now.k blocks.now.plan.now.q blocks.now.plan.now.m }
+    requires word { (best.weight ≤ 255) × (best.place < 2 ^ 52) }
+    requires spare { All (λ s. s ≡ blocks.now.sets.now) spare.old.items }
+    ensures spare { All (λ s. s ≡ blocks.now.sets.now) spare.new.items }
+    ensures found { IfOk result (λ r. IsFoundIn blocks.now.sets.now start count best.weight best.place r) }
 {
-    let _some = sets.count();
-    let _few = plan.total();
-    let first = weight * PLACES + place;
-    let closed = run_round(
-        rt, alloc, sets, plan, start, count, first, workers, spare, gate,
-    )?;
-    Ok(RoundFound {
+    let _some = blocks.sets.count();
+    let _few = blocks.plan.total();
+    let first = best.weight * PLACES + best.place;
+    let closed = run_round(crew, blocks, start, count, first, spare)?;
+    let best = Best {
         weight: closed.best() / PLACES,
         place: closed.best() % PLACES,
-        closed,
-    })
+    };
+    Ok(RoundFound { best, closed })
 }

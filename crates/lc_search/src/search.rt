@@ -7,12 +7,13 @@ ghost use Rattle.lc_enumeration.specs.Plan.{total};
 ghost use Rattle.lc_algebra.specs.Field.{size};
 ghost use Rattle.lc_search.specs.State.{SearchState, first_state, answer_in, answer_of, whole_plan, after_search_round, IsRecordOf};
 
-use crate::answer::{Answer, RoundRecord};
+use crate::answer::{Answer, Best, RoundRecord};
+use crate::blocks::SearchBlocks;
 use crate::level::{may_be_exact, put_levels};
 use crate::parts::{bound_of_levels, plan_of, sets_of, weight_at};
 use crate::round::find_in_round;
 use lc_code::Code;
-use lc_crew::hands;
+use lc_crew::Crew;
 use lc_field::NoMemory;
 use lc_infoset::Sets;
 use lc_io::Gate;
@@ -36,8 +37,7 @@ pub struct Search {
     plan: Plan,
     budget: u64,
     blocks: u64,
-    weight: u64,
-    place: u64,
+    best: Best,
     // the last level of each set that is done wholly
     levels: Vec<u64>,
     // what the workers of earlier rounds worked in
@@ -50,31 +50,30 @@ impl Model for Search {
 
     ghost Value = { SearchState };
 
-    ghost view = { λ s. record { code = s.sets; budget = s.budget; progress = record { blocks = s.blocks; weight = s.weight; place = s.place } } };
+    ghost view = { λ s. record { code = s.sets; budget = s.budget; progress = record { blocks = s.blocks; weight = s.best.weight; place = s.best.place } } };
 
-    ghost invariant = { λ s. IsKept s.sets s.plan s.budget (record { blocks = s.blocks; weight = s.weight; place = s.place }) s.levels.items × All (λ c. c ≡ s.sets) s.spare.items };
+    ghost invariant = { λ s. IsKept s.sets s.plan s.budget (record { blocks = s.blocks; weight = s.best.weight; place = s.best.place }) s.levels.items × All (λ c. c ≡ s.sets) s.spare.items };
 }
 
-/// A search at these blocks with this word.
+/// A search after so many blocks with this best word.
 pub(crate) fn search_at(
     alloc: Global,
     sets: Sets,
     plan: Plan,
     budget: u64,
     blocks: u64,
-    weight: u64,
-    place: u64,
+    best: Best,
 ) -> Result<Search, NoMemory>
     requires plan { plan ≡ whole_plan sets }
     requires budget { (budget ≤ 2 ^ 40) × (blocks ≤ budget) }
-    requires word { (weight ≤ 255) × (place < 2 ^ 52) }
+    requires word { (best.weight ≤ 255) × (best.place < 2 ^ 52) }
     ensures is { IfOk result (λ s. s ≡ record {
       code = sets;
       budget = budget;
       progress = record {
         blocks = blocks;
-        weight = weight;
-        place = place;
+        weight = best.weight;
+        place = best.place;
       };
     }) }
 {
@@ -85,8 +84,7 @@ pub(crate) fn search_at(
         plan,
         budget,
         blocks,
-        weight,
-        place,
+        best,
         levels,
         spare: Vec::new(alloc),
     })
@@ -106,7 +104,8 @@ impl Search {
         let Some(weight) = weight_at(alloc, &sets, &plan, 0)? else {
             unreachable!()
         };
-        let search = search_at(alloc, sets, plan, budget, 0, weight, 0)?;
+        let best = Best { weight, place: 0 };
+        let search = search_at(alloc, sets, plan, budget, 0, best)?;
         Ok(search)
     }
 
@@ -147,7 +146,7 @@ impl Search {
         ensures is { result ≡ bound (divisor_of self.now.code) self.now.code self.now.progress.blocks
             self.now.progress.weight }
     {
-        bound_of_levels(&self.sets, &self.levels, self.weight)
+        bound_of_levels(&self.sets, &self.levels, self.best.weight)
     }
 
     /// What the search answers: the minimum distance, if the bound after some whole phases has reached the weight of the best
@@ -157,18 +156,18 @@ impl Search {
         ensures is { option_map answer_of result ≡ answer_in self.now }
     {
         let low = self.bound();
-        if may_be_exact(&self.sets, &self.plan, self.blocks) && self.weight <= low {
+        if may_be_exact(&self.sets, &self.plan, self.blocks) && self.best.weight <= low {
             return Some(Answer::Exact {
-                weight: self.weight,
-                place: self.place,
+                weight: self.best.weight,
+                place: self.best.place,
                 blocks: self.blocks,
             });
         }
         if self.blocks == self.budget {
             return Some(Answer::Bracket {
                 low,
-                weight: self.weight,
-                place: self.place,
+                weight: self.best.weight,
+                place: self.best.place,
                 blocks: self.blocks,
             });
         }
@@ -195,24 +194,23 @@ impl Search {
         limit.min(longest.min(left.min(self.budget - self.blocks)))
     }
 
-    // Goes on by so many blocks, after which the best word has this weight and this place.
-    fn move_on(&mut self, done: u64, weight: u64, place: u64)
+    // Goes on by so many blocks, after which this is the best word.
+    fn move_on(&mut self, done: u64, best: Best)
         requires blocks { self.old.progress.blocks + done ≤ self.old.budget }
-        requires word { (weight ≤ 255) × (place < 2 ^ 52) }
+        requires word { (best.weight ≤ 255) × (best.place < 2 ^ 52) }
         ensures is { self.new ≡ record {
           code = self.old.code;
           budget = self.old.budget;
           progress = record {
             blocks =
                 self.old.progress.blocks + done;
-            weight = weight;
-            place = place;
+            weight = best.weight;
+            place = best.place;
           };
         } }
     {
         self.blocks += done;
-        self.weight = weight;
-        self.place = place;
+        self.best = best;
         put_levels(&self.sets, &self.plan, self.blocks, &mut self.levels);
     }
 
@@ -243,25 +241,27 @@ impl Search {
             × (self.new.progress.blocks ≤ self.new.budget)) }
         ensures no_memory { OnErr result (self.new ≡ self.old) }
     {
-        self.round_within(rt, alloc, workers, DEFAULT_ROUND, limit, gate)
+        let crew = Crew {
+            rt,
+            alloc,
+            workers,
+            gate,
+        };
+        self.round_within(&crew, DEFAULT_ROUND, limit)
     }
 
-    /// Does the next blocks as `round` does, in a round of at most `longest` blocks, which is 1 to 2^20.
+    /// Does the next blocks as `round` does, by the workers of a crew, in a round of at most `longest` blocks, which is 1 to 2^20.
     ///
-    /// The search isn't finished, there are 1 to 256 workers, and the limit is at least 1. Workers are numbered from 0; each
-    /// passes the gate before each of its reports. One worker starts no thread. All memory is taken before the first claim; if
-    /// there is none, the search is as before.
+    /// The search isn't finished, and the limit is at least 1. Workers are numbered from 0; each passes the gate before each of
+    /// its reports. One worker starts no thread. All memory is taken before the first claim; if there is none, the search is as
+    /// before.
     pub fn round_within<R: Threads + Sync, G: Gate + Sync>(
         &mut self,
-        rt: &R,
-        alloc: Global,
-        workers: u32,
+        crew: &Crew<'_, R, G>,
         longest: u64,
         limit: u64,
-        gate: &G,
     ) -> Result<RoundRecord, NoMemory>
         requires going { answer_in self.old ≡ None }
-        requires workers { (1 ≤ workers) × (workers ≤ 256) }
         requires longest { (1 ≤ longest) × (longest ≤ 2 ^ 20) }
         requires limit { 1 ≤ limit }
         ensures state { IfOk result (λ _. self.new ≡ after_search_round self.old longest limit) }
@@ -274,24 +274,17 @@ impl Search {
         ensures no_memory { OnErr result (self.new ≡ self.old) }
     {
         let done = self.length_of_round(longest, limit);
-        let found = find_in_round(
-            rt,
-            alloc,
-            &self.sets,
-            &self.plan,
-            self.blocks,
-            done,
-            self.weight,
-            self.place,
-            hands(workers, done),
-            &mut self.spare,
-            gate,
-        )?;
-        self.move_on(done, found.weight, found.place);
+        let planned = SearchBlocks {
+            sets: &self.sets,
+            plan: &self.plan,
+        };
+        let (start, spare) = (self.blocks, &mut self.spare);
+        let found = find_in_round(crew, &planned, start, done, self.best, spare)?;
+        self.move_on(done, found.best);
         Ok(RoundRecord {
             blocks: self.blocks,
             bound: self.bound(),
-            best: self.weight,
+            best: self.best.weight,
             done,
             closed: found.closed,
         })

@@ -13,8 +13,9 @@ ghost use Rattle.lc_session.specs.Closing.{Closes, status_of};
 
 use crate::status::Status;
 use lc_arguments::{Command, Settings};
+use lc_crew::Crew;
 use lc_io::{Failed, Gate, Sink, Source, Vault, Watcher, write_whole};
-use lc_rounds::{Course, Crew, Halt, Stop, Surroundings, afresh, resumed};
+use lc_rounds::{Course, Halt, Stop, Surroundings, afresh, resumed};
 use lc_session_rules::needs::needs_take_bytes;
 use lc_session_rules::{InputRefusal, input};
 use lc_slots::{Found, LoadRefusal, chosen, digest, emptied, is_for};

@@ -16,8 +16,9 @@ use crate::scripts::{resume, run};
 use crate::status::Status;
 use crate::summary::summary;
 use lc_arguments::{Command, OptionRefusal, options};
+use lc_crew::Crew;
 use lc_io::{Gate, Sink, Source, Vault, Watcher};
-use lc_rounds::{Crew, Surroundings};
+use lc_rounds::Surroundings;
 use std::alloc::Global;
 use std::thread::Threads;
 

@@ -10,9 +10,10 @@ ghost use Rattle.lc_session.specs.Ending.{ending_of};
 
 use crate::status::Status;
 use lc_arguments::{Command, Settings};
+use lc_crew::Crew;
 use lc_eval::QueryKind;
 use lc_io::{Gate, Sink, Vault, Watcher, write_whole};
-use lc_rounds::{Crew, Surroundings, afresh};
+use lc_rounds::{Surroundings, afresh};
 use lc_summary::{summary_code, summary_line};
 use lc_text::need_line;
 use std::thread::Threads;

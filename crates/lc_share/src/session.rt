@@ -13,6 +13,7 @@ ghost use Rattle.lc_share.specs.Seen.{asked_of, ends_of, ending_of};
 use crate::arguments::{PartAsked, part_options};
 use crate::need::first_need;
 use crate::status::PartStatus;
+use lc_crew::Crew;
 use lc_field::NoMemory;
 use lc_io::{Gate, Sink, Source, write_whole};
 use lc_part_lines::{PartLine, write};
@@ -56,15 +57,13 @@ fn part_of<R: Threads + Sync, G: Gate + Sync>(
     let Some(code) = first_need(alloc, bytes)? else {
         return Ok(None);
     };
-    find_part(
+    let crew = Crew {
         rt,
         alloc,
-        &code,
-        asked.start,
-        asked.count,
-        asked.workers,
+        workers: asked.workers,
         gate,
-    )
+    };
+    find_part(&crew, &code, asked.start, asked.count)
 }
 
 // The line of the part that is asked for; None if the script has no such part.

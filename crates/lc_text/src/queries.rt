@@ -9,9 +9,10 @@ ghost use Rattle.lc_rounds.specs.Going.{World, IsRanged, Goes, Halts};
 
 use crate::lines::line_of;
 use lc_code::Code;
+use lc_crew::Crew;
 use lc_eval::QueryKind;
 use lc_io::{Gate, Vault, Watcher};
-use lc_rounds::{Course, Crew, Halt, Stop, Surroundings, answer_need};
+use lc_rounds::{Course, Halt, Stop, Surroundings, answer_need};
 use std::thread::Threads;
 
 /// The line that a query prints of a code, the next need of a session: by the record of a checkpoint, if it has one there, else

@@ -8,11 +8,12 @@ ghost use Rattle.lc_rounds.specs.Going.{World, IsRanged, Goes};
 ghost use Rattle.lc_text.specs.Text.{Prints, EndsBefore};
 
 use crate::statements::{Text, ended, text_of};
+use lc_crew::Crew;
 use lc_eval::Machine;
 use lc_io::{Gate, Vault, Watcher};
 use lc_parse::{ParseRefusal, parse};
 use lc_print::fault_line;
-use lc_rounds::{Course, Crew, Halt, Stop, Surroundings};
+use lc_rounds::{Course, Halt, Stop, Surroundings};
 use std::thread::Threads;
 
 /// The text that the bytes print as a script, with the rounds of the searches that it asks for. If they are no script it is one

@@ -11,9 +11,10 @@ ghost use Rattle.lc_text.specs.Text.{Finishes, Ends};
 
 use crate::lines::{distribution_line, near_line};
 use crate::queries::need_line;
+use lc_crew::Crew;
 use lc_eval::{Machine, Step};
 use lc_io::{Gate, Vault, Watcher};
-use lc_rounds::{Course, Crew, Halt, Stop, Surroundings};
+use lc_rounds::{Course, Halt, Stop, Surroundings};
 use std::thread::Threads;
 
 /// The text that a script prints.

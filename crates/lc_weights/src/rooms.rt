@@ -11,7 +11,7 @@ use crate::blocks::{CountBlocks, CountRoom};
 use crate::walk::tally;
 use crate::words::leads_of;
 use lc_code::Code;
-use lc_crew::{hands, run_round};
+use lc_crew::{Crew, run_round};
 use lc_field::NoMemory;
 use lc_io::OpenGate;
 use lc_planes::{pack, pack_words};
@@ -134,10 +134,13 @@ fn run_rooms<R: Threads + Sync, const P: usize, const N: usize>(
     rooms.push(CountRoom { counts })?;
     let blocks = CountBlocks { heads, tails };
     let total = heads.len() as u64;
-    let hired = hands(workers, total.max(1));
-    let Ok(_closed) = run_round(
-        rt, alloc, &blocks, 0, total, 0, hired, &mut rooms, &OpenGate,
-    ) else {
+    let crew = Crew {
+        rt,
+        alloc,
+        workers,
+        gate: &OpenGate,
+    };
+    let Ok(_closed) = run_round(&crew, &blocks, 0, total, 0, &mut rooms) else {
         return Err(NoMemory);
     };
     Ok(rooms)

@@ -10,7 +10,7 @@ use Rattle.lc_search.proofs.search.Search.length_of_round.Goals as goal
 pub phase_end-requires : goal.phase_end-requires
 phase_end-requires c =
     let s = c.self.inside in
-    going_inside (record { code = s.sets; budget = s.budget; progress = record { blocks = s.blocks; weight = s.weight; place = s.place } }) s.plan _ c.self.invariant.0
+    going_inside (record { code = s.sets; budget = s.budget; progress = record { blocks = s.blocks; weight = s.best.weight; place = s.best.place } }) s.plan _ c.self.invariant.0
     (let k = c.dimension-some.ensures in omega (arith, k.is, k.least))
     (subst (λ (t : SearchState). answer_in t ≡ None) (sym c.self.view_is) c.requires.going)
 
@@ -18,13 +18,13 @@ pub returns-clause-is : goal.returns-clause-is
 returns-clause-is c =
     let s = c.self.inside in
     subst (λ (t : SearchState). c.min-3.result ≡ round_length t.code t.budget c.args.longest (Some c.args.limit) t.progress.blocks) c.self.view_is
-    (round_made (record { code = s.sets; budget = s.budget; progress = record { blocks = s.blocks; weight = s.weight; place = s.place } }) s.plan c.args.longest c.args.limit c.phase_end.result c.min-3.result c.self.invariant.0.plan_is c.phase_end.ensures.found
+    (round_made (record { code = s.sets; budget = s.budget; progress = record { blocks = s.blocks; weight = s.best.weight; place = s.best.place } }) s.plan c.args.longest c.args.limit c.phase_end.result c.min-3.result c.self.invariant.0.plan_is c.phase_end.ensures.found
     (omega (arith, c.min.ensures, c.min-2.ensures, c.min-3.ensures)))
 
 pub returns-clause-some : goal.returns-clause-some
 returns-clause-some c =
     let s = c.self.inside in
-    let left = going_left (record { code = s.sets; budget = s.budget; progress = record { blocks = s.blocks; weight = s.weight; place = s.place } }) s.plan _ c.self.invariant.0
+    let left = going_left (record { code = s.sets; budget = s.budget; progress = record { blocks = s.blocks; weight = s.best.weight; place = s.best.place } }) s.plan _ c.self.invariant.0
     (let k = c.dimension-some.ensures in omega (arith, k.is, k.least))
     (subst (λ (t : SearchState). answer_in t ≡ None) (sym c.self.view_is) c.requires.going) in
     omega (arith, left, c.phase_end.ensures.after, c.min.ensures, c.min-2.ensures, c.min-3.ensures, c.requires.limit, c.requires.longest)

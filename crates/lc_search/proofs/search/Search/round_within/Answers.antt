@@ -9,7 +9,7 @@ returns-clause-state g c =
     let s = c.self.inside in
     let done = subst (λ (t : SearchState). c.length_of_round-done.result ≡ round_length t.code t.budget c.args.longest (Some c.args.limit) t.progress.blocks) (sym c.self.view_is) c.length_of_round-done.ensures.is in
     c.move_on.ensures.is
-    ∙ round_after (record { code = s.sets; budget = s.budget; progress = record { blocks = s.blocks; weight = s.weight; place = s.place } }) c.args.longest c.args.limit c.length_of_round-done.result c.in_ok-found.found done c.in_ok-found.ensures.found
+    ∙ round_after (record { code = s.sets; budget = s.budget; progress = record { blocks = s.blocks; weight = s.best.weight; place = s.best.place } }) c.args.longest c.args.limit c.length_of_round-done.result c.in_ok-found.found done c.in_ok-found.ensures.found
     ∙ ap (λ (t : SearchState). after_search_round t c.args.longest c.args.limit) c.self.view_is
 
 pub returns-clause-record : goal.returns-clause-record

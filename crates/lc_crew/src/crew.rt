@@ -1,10 +1,10 @@
-//! Who does the rounds of a session.
+//! Who does a round.
 ghost use Rattle.std.specs.Prelude.{◌≤◌};
 
 use std::alloc::Global;
 
-/// Who does the rounds of a session: the workers, with what starts them, what their memory comes from and the gate that each of
-/// them passes before its reports.
+/// Who does a round: the workers, with what starts them, what their memory comes from and the gate that each of them passes
+/// before its reports.
 #[derive(Drop)]
 pub struct Crew<'a, R, G> {
     /// What starts the threads of the workers.
