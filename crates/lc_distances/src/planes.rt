@@ -35,16 +35,18 @@ pub fn pack(word: &[u8], columns: &[usize], planes: usize) -> [u64; 4]
     bits
 }
 
-// Adds to each count the number of symbols at which a word, whose planes are p and r, differs from another.
+// Adds to each count the number of symbols at which a head differs from a word, by two planes.
 #[inline]
-fn add_two(ones: &[u64], twos: &[u64], p: u64, r: u64, counts: &mut [u32])
+fn add_two(ones: &[u64], twos: &[u64], head: &[u64; 4], counts: &mut [u32])
     requires ones { length ones.now ≡ length counts.old }
     requires twos { length twos.now ≡ length counts.old }
     requires few { (i : ℕ) → i < length counts.old → slice_index counts.old i ≤ 255 }
     ensures is { (i : ℕ) → i < length counts.old →
         slice_index counts.new i ≡ slice_index counts.old i + count_ones
-        (bit_or (bit_xor r (slice_index twos.now i)) (bit_xor p (slice_index ones.now i))) }
+        (bit_or (bit_xor (slice_index head.now 1) (slice_index twos.now i))
+        (bit_xor (slice_index head.now 0) (slice_index ones.now i))) }
 {
+    let [p, r, _, _] = *head;
     for i in 0..counts.len() {
         let apart = (r ^ twos[i]) | (p ^ ones[i]);
         let many = apart.count_ones();
@@ -54,16 +56,18 @@ fn add_two(ones: &[u64], twos: &[u64], p: u64, r: u64, counts: &mut [u32])
 
 // The same by three planes.
 #[inline]
-fn add_three(ones: &[u64], twos: &[u64], fours: &[u64], p: u64, r: u64, s: u64, counts: &mut [u32])
+fn add_three(ones: &[u64], twos: &[u64], fours: &[u64], head: &[u64; 4], counts: &mut [u32])
     requires ones { length ones.now ≡ length counts.old }
     requires twos { length twos.now ≡ length counts.old }
     requires fours { length fours.now ≡ length counts.old }
     requires few { (i : ℕ) → i < length counts.old → slice_index counts.old i ≤ 255 }
     ensures is { (i : ℕ) → i < length counts.old →
         slice_index counts.new i ≡ slice_index counts.old i + count_ones
-        (bit_or (bit_xor s (slice_index fours.now i))
-        (bit_or (bit_xor r (slice_index twos.now i)) (bit_xor p (slice_index ones.now i)))) }
+        (bit_or (bit_xor (slice_index head.now 2) (slice_index fours.now i))
+        (bit_or (bit_xor (slice_index head.now 1) (slice_index twos.now i))
+        (bit_xor (slice_index head.now 0) (slice_index ones.now i)))) }
 {
+    let [p, r, s, _] = *head;
     for i in 0..counts.len() {
         let apart = (s ^ fours[i]) | ((r ^ twos[i]) | (p ^ ones[i]));
         let many = apart.count_ones();
@@ -78,10 +82,7 @@ fn add_four(
     twos: &[u64],
     fours: &[u64],
     eights: &[u64],
-    p: u64,
-    r: u64,
-    s: u64,
-    t: u64,
+    head: &[u64; 4],
     counts: &mut [u32],
 )
     requires ones { length ones.now ≡ length counts.old }
@@ -91,10 +92,12 @@ fn add_four(
     requires few { (i : ℕ) → i < length counts.old → slice_index counts.old i ≤ 255 }
     ensures is { (i : ℕ) → i < length counts.old →
         slice_index counts.new i ≡ slice_index counts.old i + count_ones
-        (bit_or (bit_xor t (slice_index eights.now i))
-        (bit_or (bit_xor s (slice_index fours.now i))
-        (bit_or (bit_xor r (slice_index twos.now i)) (bit_xor p (slice_index ones.now i))))) }
+        (bit_or (bit_xor (slice_index head.now 3) (slice_index eights.now i))
+        (bit_or (bit_xor (slice_index head.now 2) (slice_index fours.now i))
+        (bit_or (bit_xor (slice_index head.now 1) (slice_index twos.now i))
+        (bit_xor (slice_index head.now 0) (slice_index ones.now i))))) }
 {
+    let [p, r, s, t] = *head;
     for i in 0..counts.len() {
         let low = (r ^ twos[i]) | (p ^ ones[i]);
         let apart = (t ^ eights[i]) | ((s ^ fours[i]) | low);
@@ -130,17 +133,16 @@ pub fn add_apart(
     let ones = &bits[start..start + many];
     let twos = &bits[second..second + many];
     if planes == 2 {
-        add_two(ones, twos, head[0], head[1], counts);
+        add_two(ones, twos, head, counts);
         return;
     }
     let third = words + second;
     let fours = &bits[third..third + many];
     if planes == 3 {
-        add_three(ones, twos, fours, head[0], head[1], head[2], counts);
+        add_three(ones, twos, fours, head, counts);
         return;
     }
     let fourth = words + third;
     let eights = &bits[fourth..fourth + many];
-    let [p, r, s, t] = *head;
-    add_four(ones, twos, fours, eights, p, r, s, t, counts);
+    add_four(ones, twos, fours, eights, head, counts);
 }

@@ -19,7 +19,7 @@ ghost use Rattle.lc_distances.specs.Least.{IsFirstLeast, AreCounted, ArePartCoun
 ghost use Rattle.lc_kernel.specs.Sums.{front_word, AreMultiples};
 
 use crate::block::Block;
-use crate::grid::Grid;
+use crate::grid::{Grid, GridAt};
 use crate::multiples::{RowMultiples, multiple_of, nonzero};
 use crate::part_counts::count_sweeps;
 use crate::runs::pair_index;
@@ -62,8 +62,7 @@ pub(crate) fn row_planes(
 // The planes of the sum of the first i + 1 entries, from those of the first i.
 fn next_front(
     sets: &Sets,
-    grid: &Grid,
-    part: usize,
+    table: &GridAt<'_>,
     spot: &Spot,
     front: &[u64; 4],
     i: usize,
@@ -71,29 +70,28 @@ fn next_front(
     requires set { spot.now.set < set_count sets.now }
     requires message { Contains (messages (length sets.now.rows) (size sets.now.field) (length spot.now.support))
         (spot_message spot.now) }
-    requires grid { IsGrid sets.now spot.now.set grid.now }
-    requires part { part < length grid.now.parts.items }
+    requires grid { IsGrid sets.now spot.now.set table.now.grid.now }
+    requires part { table.now.part < length table.now.grid.now.parts.items }
     requires entry { i < length spot.now.support }
-    requires front { ArePlanes (part_at (others sets.now spot.now.set) part) grid.now.planes
+    requires front { ArePlanes (part_at (others sets.now spot.now.set) table.now.part) table.now.grid.now.planes
         (front_word sets.now spot.now i) front.now }
-    ensures is { ArePlanes (part_at (others sets.now spot.now.set) part) grid.now.planes
+    ensures is { ArePlanes (part_at (others sets.now spot.now.set) table.now.part) table.now.grid.now.planes
         (front_word sets.now spot.now (i + 1)) result }
 {
     let _k = sets.dimension();
     let _n = sets.length();
     let support = spot.support();
     let coefficients = spot.coefficients();
-    let table = &grid.parts[part];
+    let part = &table.grid.parts[table.part];
     let row = support[i] * nonzero(sets);
     let element = coefficients[i] as usize - 1;
-    sum_planes(sets.field(), front, &table.rows[row + element])
+    sum_planes(sets.field(), front, &part.rows[row + element])
 }
 
 // Makes the planes of the sums of the first `to` entries again, those of the first `from` being there.
 fn refresh_planes(
     sets: &Sets,
-    grid: &Grid,
-    part: usize,
+    table: &GridAt<'_>,
     spot: &Spot,
     fronts: &mut [[u64; 4]],
     from: usize,
@@ -102,18 +100,18 @@ fn refresh_planes(
     requires set { spot.now.set < set_count sets.now }
     requires message { Contains (messages (length sets.now.rows) (size sets.now.field) (length spot.now.support))
         (spot_message spot.now) }
-    requires grid { IsGrid sets.now spot.now.set grid.now }
-    requires part { part < length grid.now.parts.items }
+    requires grid { IsGrid sets.now spot.now.set table.now.grid.now }
+    requires part { table.now.part < length table.now.grid.now.parts.items }
     requires many { length fronts.old ≡ length sets.now.rows + 1 }
-    requires fronts { AreFrontPlanes sets.now spot.now part grid.now.planes from fronts.old }
+    requires fronts { AreFrontPlanes sets.now spot.now table.now.part table.now.grid.now.planes from fronts.old }
     requires order { from ≤ to }
     requires inside { to ≤ length spot.now.support }
-    ensures fronts { AreFrontPlanes sets.now spot.now part grid.now.planes to fronts.new }
+    ensures fronts { AreFrontPlanes sets.now spot.now table.now.part table.now.grid.now.planes to fronts.new }
 {
     let _k = sets.dimension();
     let _n = sets.length();
     for i in from..to {
-        let front = next_front(sets, grid, part, spot, &fronts[i], i);
+        let front = next_front(sets, table, spot, &fronts[i], i);
         fronts[i + 1] = front;
     }
 }
@@ -122,8 +120,7 @@ fn refresh_planes(
 // Returns how many words the run has.
 fn one_front(
     block: &Block<'_>,
-    grid: &Grid,
-    part: usize,
+    table: &GridAt<'_>,
     spot: &Spot,
     head: &[u64; 4],
     done: usize,
@@ -132,28 +129,29 @@ fn one_front(
     requires set { spot.now.set < set_count block.now.sets.now }
     requires at { IsSpotIn block.now done spot.now }
     requires level { 3 ≤ length spot.now.support }
-    requires grid { IsGrid block.now.sets.now spot.now.set grid.now }
-    requires part { part < length grid.now.parts.items }
-    requires head { ArePlanes (part_at (others block.now.sets.now spot.now.set) part) grid.now.planes
+    requires grid { IsGrid block.now.sets.now spot.now.set table.now.grid.now }
+    requires part { table.now.part < length table.now.grid.now.parts.items }
+    requires head { ArePlanes (part_at (others block.now.sets.now spot.now.set) table.now.part) table.now.grid.now.planes
         (front_word block.now.sets.now spot.now (length spot.now.support - 2)) head.now }
     requires some { done < length counts.old }
     requires words { length counts.old ≡ length (words_in block.now) }
-    requires counted { ArePartCounted (others block.now.sets.now spot.now.set) part (words_in block.now) done
+    requires counted { ArePartCounted (others block.now.sets.now spot.now.set) table.now.part (words_in block.now) done
         (length counts.old) counts.old }
-    ensures counted { ArePartCounted (others block.now.sets.now spot.now.set) part (words_in block.now)
+    ensures counted { ArePartCounted (others block.now.sets.now spot.now.set) table.now.part (words_in block.now)
         (done + result) (length counts.old) counts.new }
     ensures some { 0 < result }
     ensures within { done + result ≤ length counts.old }
     ensures end { done + result < length counts.old →
         tail_index block.now.sets.now spot.now + result ≡ tail_count block.now.sets.now }
 {
+    let grid = table.grid;
     let elements = nonzero(block.sets);
     let tail = tail_of(block.sets, spot);
     let start = pair_index(block.sets, &grid.starts, spot) * elements * elements + tail;
     let count = (elements * elements - tail).min(counts.len() - done);
     let end = done + count;
-    let table = &grid.parts[part];
-    let tails = table.bits.as_slice();
+    let part = &grid.parts[table.part];
+    let tails = part.bits.as_slice();
     let run = &mut counts[done..end];
     add_apart(grid.planes, tails, grid.tails, start, head, run);
     count
@@ -163,8 +161,7 @@ fn one_front(
 // message on.
 fn add_fronts(
     block: &Block<'_>,
-    grid: &Grid,
-    part: usize,
+    table: &GridAt<'_>,
     spot: &mut Spot,
     fronts: &mut [[u64; 4]],
     counts: &mut [u32],
@@ -172,14 +169,14 @@ fn add_fronts(
     requires set { spot.old.set < set_count block.now.sets.now }
     requires at { IsSpotIn block.now 0 spot.old }
     requires level { 3 ≤ length spot.old.support }
-    requires grid { IsGrid block.now.sets.now spot.old.set grid.now }
-    requires part { part < length grid.now.parts.items }
+    requires grid { IsGrid block.now.sets.now spot.old.set table.now.grid.now }
+    requires part { table.now.part < length table.now.grid.now.parts.items }
     requires many { length fronts.old ≡ length block.now.sets.now.rows + 1 }
     requires some { 0 < length counts.old }
     requires words { length counts.old ≡ length (words_in block.now) }
-    requires counted { AreCounted (take (64 * part) (others block.now.sets.now spot.old.set))
+    requires counted { AreCounted (take (64 * table.now.part) (others block.now.sets.now spot.old.set))
         (words_in block.now) 0 (length counts.old) counts.old }
-    ensures counted { AreCounted (take (64 * (part + 1)) (others block.now.sets.now spot.old.set))
+    ensures counted { AreCounted (take (64 * (table.now.part + 1)) (others block.now.sets.now spot.old.set))
         (words_in block.now) 0 (length counts.old) counts.new }
     ensures set { spot.new.set ≡ spot.old.set }
     ensures room { spot.new.room ≡ spot.old.room }
@@ -189,8 +186,8 @@ fn add_fronts(
     let mut done = 0;
     let mut stayed = 0;
     loop {
-        refresh_planes(block.sets, grid, part, spot, fronts, stayed, level - 2);
-        let count = one_front(block, grid, part, spot, &fronts[level - 2], done, counts);
+        refresh_planes(block.sets, table, spot, fronts, stayed, level - 2);
+        let count = one_front(block, table, spot, &fronts[level - 2], done, counts);
         if done + count >= counts.len() {
             return;
         }
@@ -222,7 +219,7 @@ fn count_fronts(
     counts.fill(0);
     for part in 0..grid.parts.len() {
         block.plan.start_of(block.number, spot);
-        add_fronts(block, grid, part, spot, fronts, counts);
+        add_fronts(block, &GridAt { grid, part }, spot, fronts, counts);
     }
 }
 

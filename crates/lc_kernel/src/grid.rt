@@ -43,6 +43,13 @@ pub(crate) struct Grid {
     pub(crate) starts: Vec<usize>,
 }
 
+/// A table at one part of the columns: the table, and the index of the part.
+#[derive(Clone, Copy)]
+pub(crate) struct GridAt<'a> {
+    pub(crate) grid: &'a Grid,
+    pub(crate) part: usize,
+}
+
 // The negative of the sum of multiples of rows a and b: tail t.
 fn tail(
     alloc: Global,

@@ -9,45 +9,42 @@ ghost use Rattle.lc_distances.specs.Least.{AreCounted};
 ghost use Rattle.lc_kernel.specs.Sweeps.{list_count, IsListed, AreHeadsOf};
 
 use crate::block::Block;
-use crate::grid::Grid;
+use crate::grid::{Grid, GridAt};
 use crate::multiples::nonzero;
-use crate::sweeps::{Sweep, halves_of, list_of, make_heads, turn, words_left};
+use crate::sweeps::{Listed, Sweep, halves_of, list_of, make_heads, turn, words_left};
 use lc_distances::add_halves;
 use lc_place::Spot;
 
 // Adds what a part of the columns has to the counts of words of a block with one support, from one of its lists on.
 fn add_support(
     sweep: &Sweep<'_>,
-    support: &[usize],
+    at: &Listed<'_>,
     heads: &[[u64; 4]],
-    list: usize,
-    done: usize,
     counts: &mut [u32],
 )
     requires set { sweep.now.set < set_count sweep.now.block.sets.now }
-    requires at { IsListed sweep.now done support.now list }
+    requires at { IsListed sweep.now at.now.done at.now.support.now at.now.list }
     requires grid { IsGrid sweep.now.block.sets.now sweep.now.set sweep.now.grid.now }
     requires part { sweep.now.part < length sweep.now.grid.now.parts.items }
-    requires many { length heads.now ≡ list_count sweep.now.block.sets.now (length support.now - 2) }
+    requires many { length heads.now ≡ list_count sweep.now.block.sets.now (length at.now.support.now - 2) }
     requires few { length heads.now ≤ 1024 }
-    requires heads { AreHeadsOf sweep.now support.now (length support.now - 2) heads.now }
-    requires lists { list + length counts.old ≤ list_count sweep.now.block.sets.now (length support.now) }
-    requires words { done + length counts.old ≤ length (words_in sweep.now.block) }
+    requires heads { AreHeadsOf sweep.now at.now.support.now (length at.now.support.now - 2) heads.now }
+    requires lists { at.now.list + length counts.old ≤ list_count sweep.now.block.sets.now (length at.now.support.now) }
+    requires words { at.now.done + length counts.old ≤ length (words_in sweep.now.block) }
     requires counted { AreCounted (take (64 * sweep.now.part) (others sweep.now.block.sets.now sweep.now.set))
-        (words_in sweep.now.block) done (length counts.old) counts.old }
+        (words_in sweep.now.block) at.now.done (length counts.old) counts.old }
     ensures counted { AreCounted (take (64 * (sweep.now.part + 1)) (others sweep.now.block.sets.now sweep.now.set))
-        (words_in sweep.now.block) done (length counts.old) counts.new }
+        (words_in sweep.now.block) at.now.done (length counts.old) counts.new }
 {
-    let halves = halves_of(sweep, support, heads);
-    add_halves(&halves, list, counts);
+    let halves = halves_of(sweep, at.support, heads);
+    add_halves(&halves, at.list, counts);
 }
 
 // Adds what a part of the columns has to the counts of the words of a block of a level of at least 3, from its first
 // message on, by the heads of its supports.
 fn add_sweep(
     block: &Block<'_>,
-    grid: &Grid,
-    part: usize,
+    table: &GridAt<'_>,
     spot: &Spot,
     support: &mut [usize],
     heads: &mut [[u64; 4]],
@@ -56,24 +53,24 @@ fn add_sweep(
     requires set { spot.now.set < set_count block.now.sets.now }
     requires at { IsSpotIn block.now 0 spot.now }
     requires level { 3 ≤ length spot.now.support }
-    requires grid { IsGrid block.now.sets.now spot.now.set grid.now }
-    requires part { part < length grid.now.parts.items }
+    requires grid { IsGrid block.now.sets.now spot.now.set table.now.grid.now }
+    requires part { table.now.part < length table.now.grid.now.parts.items }
     requires places { length support.old ≡ length spot.now.support }
     requires many { length heads.old ≡ list_count block.now.sets.now (length spot.now.support - 2) }
     requires few { length heads.old ≤ 1024 }
     requires some { 0 < length counts.old }
     requires words { length counts.old ≡ length (words_in block.now) }
-    requires counted { AreCounted (take (64 * part) (others block.now.sets.now spot.now.set))
+    requires counted { AreCounted (take (64 * table.now.part) (others block.now.sets.now spot.now.set))
         (words_in block.now) 0 (length counts.old) counts.old }
-    ensures counted { AreCounted (take (64 * (part + 1)) (others block.now.sets.now spot.now.set))
+    ensures counted { AreCounted (take (64 * (table.now.part + 1)) (others block.now.sets.now spot.now.set))
         (words_in block.now) 0 (length counts.old) counts.new }
 {
     let elements = nonzero(block.sets);
     let set = spot.set();
     let sweep = Sweep {
         block: *block,
-        grid,
-        part,
+        grid: table.grid,
+        part: table.part,
         set,
     };
     let mut list = list_of(block.sets, spot);
@@ -85,7 +82,7 @@ fn add_sweep(
         let count = words_left(lists, list, counts.len() - done);
         let end = done + count;
         let piece = &mut counts[done..end];
-        add_support(&sweep, support, heads, list, done, piece);
+        add_support(&sweep, &Listed { support, list, done }, heads, piece);
         if end >= counts.len() {
             return;
         }
@@ -119,6 +116,13 @@ pub(crate) fn count_sweeps(
 {
     counts.fill(0);
     for part in 0..grid.parts.len() {
-        add_sweep(block, grid, part, spot, support, heads, counts);
+        add_sweep(
+            block,
+            &GridAt { grid, part },
+            spot,
+            support,
+            heads,
+            counts,
+        );
     }
 }

@@ -19,29 +19,34 @@ pub(crate) struct Part {
     pub(crate) sums: Vec<u64>,
 }
 
-/// The part for these columns, at most 64, of set `j` over 2 elements, with tails of two or three places. For
-/// each row it needs the index of its first pair.
+/// The tails of messages: how many places they have, two or three, and for each row the index of its first pair.
+#[derive(Clone, Copy)]
+pub(crate) struct Tails<'a> {
+    pub(crate) places: usize,
+    pub(crate) pairs: &'a [usize],
+}
+
+/// The part for these columns, at most 64, of set `j` over 2 elements, with these tails.
 pub(crate) fn part_of(
     alloc: Global,
     sets: &Sets,
     j: usize,
-    tail: usize,
-    pairs: &[usize],
+    tails: &Tails<'_>,
     columns: &[usize],
 ) -> Result<Part, NoMemory>
     requires set { j < set_count sets.now }
     requires field { sets.now.field ≡ Gf2 }
-    requires least { 2 ≤ tail }
-    requires most { tail ≤ 3 }
-    requires pairs { AreStarts (length sets.now.rows) 2 pairs.now }
+    requires least { 2 ≤ tails.now.places }
+    requires most { tails.now.places ≤ 3 }
+    requires pairs { AreStarts (length sets.now.rows) 2 tails.now.pairs.now }
     requires few { length columns.now ≤ 64 }
     requires inside { (t : ℕ) → t < length columns.now → slice_index columns.now t < sets.now.columns }
-    ensures is { IfOk result (λ p. IsPart sets.now j tail columns.now p.rows.items p.sums.items) }
+    ensures is { IfOk result (λ p. IsPart sets.now j tails.now.places columns.now p.rows.items p.sums.items) }
 {
     let _k = sets.dimension();
     let _n = sets.length();
     let rows = row_bits(alloc, sets, j, columns)?;
-    let sums = tail_sums(alloc, tail, pairs, &rows)?;
+    let sums = tail_sums(alloc, tails, &rows)?;
     Ok(Part { rows, sums })
 }
 
@@ -143,25 +148,20 @@ fn longer_starts(
 }
 
 // The sums of the rows at each tail of two or three places.
-fn tail_sums(
-    alloc: Global,
-    tail: usize,
-    pairs: &[usize],
-    rows: &[u64],
-) -> Result<Vec<u64>, NoMemory>
+fn tail_sums(alloc: Global, tails: &Tails<'_>, rows: &[u64]) -> Result<Vec<u64>, NoMemory>
     requires few { length rows.now ≤ 255 }
-    requires least { 2 ≤ tail }
-    requires most { tail ≤ 3 }
-    requires pairs { AreStarts (length rows.now) 2 pairs.now }
-    ensures are { IfOk result (λ sums. AreRowSums (length rows.now) tail rows.now sums.items) }
+    requires least { 2 ≤ tails.now.places }
+    requires most { tails.now.places ≤ 3 }
+    requires pairs { AreStarts (length rows.now) 2 tails.now.pairs.now }
+    ensures are { IfOk result (λ sums. AreRowSums (length rows.now) tails.now.places rows.now sums.items) }
 {
     let k = rows.len();
     let starts = row_starts(alloc, k)?;
     let sums = longer_sums(alloc, 1, &starts, rows, rows, k * k / 2)?;
-    if tail == 2 {
+    if tails.places == 2 {
         return Ok(sums);
     }
-    longer_sums(alloc, 2, pairs, rows, &sums, k * k * k / 6)
+    longer_sums(alloc, 2, tails.pairs, rows, &sums, k * k * k / 6)
 }
 
 // The sums of the rows at each tail of one place more than those with these starts and sums. It asks for room

@@ -21,6 +21,14 @@ use lc_enumeration::{BLOCK, PLACES};
 use lc_infoset::Sets;
 use lc_place::Spot;
 
+// A run: the spot of its first message, the index of that one's tail, and its offset in the block.
+#[derive(Clone, Copy)]
+struct Run<'a> {
+    spot: &'a Spot,
+    start: usize,
+    done: u64,
+}
+
 /// The index of the pair of the last two places of a spot.
 pub(crate) fn pair_index(sets: &Sets, starts: &[usize], spot: &Spot) -> usize
     requires message { Contains (messages (length sets.now.rows) (size sets.now.field) (length spot.now.support))
@@ -82,33 +90,32 @@ fn head_bits(sets: &Sets, table: &Table, part: usize, spot: &Spot) -> u64
 }
 
 // Counts for a run what a part of the columns has: puts what the first part has in place of the old counts,
-// and adds what another has. The run's words begin at an offset of a block and their tails at an index.
+// and adds what another has.
 fn count_part(
     block: &Block<'_>,
     table: &Table,
     part: usize,
-    spot: &Spot,
-    start: usize,
-    done: u64,
+    run: &Run<'_>,
     counts: &mut [u32],
 )
-    requires set { spot.now.set < set_count block.now.sets.now }
-    requires at { IsSpotIn block.now done spot.now }
-    requires level { table.now.tail ≤ length spot.now.support }
-    requires table { IsTable block.now.sets.now spot.now.set table.now }
+    requires set { run.now.spot.now.set < set_count block.now.sets.now }
+    requires at { IsSpotIn block.now run.now.done run.now.spot.now }
+    requires level { table.now.tail ≤ length run.now.spot.now.support }
+    requires table { IsTable block.now.sets.now run.now.spot.now.set table.now }
     requires part { part < length table.now.parts.items }
-    requires start { slice_get (supports_from 0 (length block.now.sets.now.rows) table.now.tail) start
-        ≡ Some (tail_of table.now.tail spot.now) }
-    requires tails { start + length counts.old
+    requires start { slice_get (supports_from 0 (length block.now.sets.now.rows) table.now.tail) run.now.start
+        ≡ Some (tail_of table.now.tail run.now.spot.now) }
+    requires tails { run.now.start + length counts.old
         ≤ length (supports_from 0 (length block.now.sets.now.rows) table.now.tail) }
-    requires words { done + length counts.old ≤ length (words_in block.now) }
-    requires counted { 0 < part → AreCounted (take (64 * part) (others block.now.sets.now spot.now.set))
-        (words_in block.now) done (length counts.old) counts.old }
-    ensures counted { AreCounted (take (64 * (part + 1)) (others block.now.sets.now spot.now.set))
-        (words_in block.now) done (length counts.old) counts.new }
+    requires words { run.now.done + length counts.old ≤ length (words_in block.now) }
+    requires counted { 0 < part → AreCounted (take (64 * part) (others block.now.sets.now run.now.spot.now.set))
+        (words_in block.now) run.now.done (length counts.old) counts.old }
+    ensures counted { AreCounted (take (64 * (part + 1)) (others block.now.sets.now run.now.spot.now.set))
+        (words_in block.now) run.now.done (length counts.old) counts.new }
 {
-    let prefix = head_bits(block.sets, table, part, spot);
+    let prefix = head_bits(block.sets, table, part, run.spot);
     let sums = table.parts[part].sums.as_slice();
+    let start = run.start;
     let end = start + counts.len();
     if part == 0 {
         put_ones(&sums[start..end], prefix, counts);
@@ -121,25 +128,23 @@ fn count_part(
 fn count_run(
     block: &Block<'_>,
     table: &Table,
-    spot: &Spot,
-    start: usize,
-    done: u64,
+    run: &Run<'_>,
     counts: &mut [u32],
 )
-    requires set { spot.now.set < set_count block.now.sets.now }
-    requires at { IsSpotIn block.now done spot.now }
-    requires level { table.now.tail ≤ length spot.now.support }
-    requires table { IsTable block.now.sets.now spot.now.set table.now }
-    requires start { slice_get (supports_from 0 (length block.now.sets.now.rows) table.now.tail) start
-        ≡ Some (tail_of table.now.tail spot.now) }
-    requires tails { start + length counts.old
+    requires set { run.now.spot.now.set < set_count block.now.sets.now }
+    requires at { IsSpotIn block.now run.now.done run.now.spot.now }
+    requires level { table.now.tail ≤ length run.now.spot.now.support }
+    requires table { IsTable block.now.sets.now run.now.spot.now.set table.now }
+    requires start { slice_get (supports_from 0 (length block.now.sets.now.rows) table.now.tail) run.now.start
+        ≡ Some (tail_of table.now.tail run.now.spot.now) }
+    requires tails { run.now.start + length counts.old
         ≤ length (supports_from 0 (length block.now.sets.now.rows) table.now.tail) }
-    requires words { done + length counts.old ≤ length (words_in block.now) }
-    ensures counted { AreCounted (others block.now.sets.now spot.now.set) (words_in block.now) done
+    requires words { run.now.done + length counts.old ≤ length (words_in block.now) }
+    ensures counted { AreCounted (others block.now.sets.now run.now.spot.now.set) (words_in block.now) run.now.done
         (length counts.old) counts.new }
 {
     for part in 0..table.parts.len() {
-        count_part(block, table, part, spot, start, done, counts);
+        count_part(block, table, part, run, counts);
     }
 }
 
@@ -187,14 +192,12 @@ fn one_run(block: &Block<'_>, table: &Table, spot: &Spot, done: usize, counts: &
     let tails = table.parts[0].sums.len();
     let count = (tails - start).min(counts.len() - done);
     let end = done + count;
-    count_run(
-        block,
-        table,
+    let run = Run {
         spot,
         start,
-        done as u64,
-        &mut counts[done..end],
-    );
+        done: done as u64,
+    };
+    count_run(block, table, &run, &mut counts[done..end]);
     count
 }
 

@@ -33,6 +33,15 @@ pub(crate) struct Sweep<'a> {
     pub(crate) set: usize,
 }
 
+/// A place on the way: a support, the index of a list of coefficients among those of its level, and the offset in the block
+/// of that message.
+#[derive(Clone, Copy)]
+pub(crate) struct Listed<'a> {
+    pub(crate) support: &'a [usize],
+    pub(crate) list: usize,
+    pub(crate) done: usize,
+}
+
 /// The most heads that a support has.
 pub(crate) const MOST_HEADS: usize = 1024;
 
@@ -186,29 +195,27 @@ pub(crate) fn halves_of<'a>(
 // from one of its lists on, and the first of them that has it: if it is below the bound.
 fn least_support(
     sweep: &Sweep<'_>,
-    support: &[usize],
+    at: &Listed<'_>,
     heads: &[[u64; 4]],
-    list: usize,
-    done: usize,
     bound: u32,
     counts: &mut [u32],
 ) -> (u32, usize)
     requires set { sweep.now.set < set_count sweep.now.block.sets.now }
-    requires at { IsListed sweep.now done support.now list }
+    requires at { IsListed sweep.now at.now.done at.now.support.now at.now.list }
     requires grid { IsGrid sweep.now.block.sets.now sweep.now.set sweep.now.grid.now }
     requires alone { length sweep.now.grid.now.parts.items ≡ 1 }
     requires part { sweep.now.part < length sweep.now.grid.now.parts.items }
-    requires many { length heads.now ≡ list_count sweep.now.block.sets.now (length support.now - 2) }
+    requires many { length heads.now ≡ list_count sweep.now.block.sets.now (length at.now.support.now - 2) }
     requires few { length heads.now ≤ 1024 }
-    requires heads { AreHeadsOf sweep.now support.now (length support.now - 2) heads.now }
-    requires lists { list + length counts.old ≤ list_count sweep.now.block.sets.now (length support.now) }
-    requires words { done + length counts.old ≤ length (words_in sweep.now.block) }
+    requires heads { AreHeadsOf sweep.now at.now.support.now (length at.now.support.now - 2) heads.now }
+    requires lists { at.now.list + length counts.old ≤ list_count sweep.now.block.sets.now (length at.now.support.now) }
+    requires words { at.now.done + length counts.old ≤ length (words_in sweep.now.block) }
     ensures is { IsFirstBelow (length counts.old)
         (λ i. weight (restrict (others sweep.now.block.sets.now sweep.now.set)
-        (slice_index_or (words_in sweep.now.block) (done + i) []))) bound result.0 result.1 }
+        (slice_index_or (words_in sweep.now.block) (at.now.done + i) []))) bound result.0 result.1 }
 {
-    let halves = halves_of(sweep, support, heads);
-    nearest(&halves, list, bound, counts)
+    let halves = halves_of(sweep, at.support, heads);
+    nearest(&halves, at.list, bound, counts)
 }
 
 // Goes to the next support among k places. Returns the first place that changed. None if there is no next
@@ -322,7 +329,8 @@ pub(crate) fn least_sweeps(
     loop {
         let count = words_left(lists, list, counts.len() - done);
         let part = &mut counts[..count];
-        let (other, place) = least_support(&sweep, support, heads, list, done, least, part);
+        let listed = Listed { support, list, done };
+        let (other, place) = least_support(&sweep, &listed, heads, least, part);
         let (best, index) = joined(least, at, other, place, done);
         if done + count >= counts.len() {
             return (best, index);

@@ -7,7 +7,7 @@ ghost use Rattle.lc_enumeration.specs.Search.{set_count};
 ghost use Rattle.lc_kernel.specs.Packed.{outside, others, AreStarts};
 ghost use Rattle.lc_kernel.specs.Tables.{AreParts, IsTable, sum_estimate};
 
-use crate::parts::{Part, pair_starts, part_of, tail_starts};
+use crate::parts::{Part, Tails, pair_starts, part_of, tail_starts};
 use lc_field::NoMemory;
 use lc_infoset::Sets;
 use std::alloc::Global;
@@ -36,7 +36,11 @@ pub(crate) fn table_of(alloc: Global, sets: &Sets, j: usize) -> Result<Table, No
     let tail = tail_places(sets);
     let pairs = pair_starts(alloc, k)?;
     let starts = tail_starts(alloc, k, tail, &pairs)?;
-    let parts = parts_of(alloc, sets, j, tail, &pairs)?;
+    let tails = Tails {
+        places: tail,
+        pairs: &pairs,
+    };
+    let parts = parts_of(alloc, sets, j, &tails)?;
     Ok(Table {
         parts,
         tail,
@@ -65,21 +69,20 @@ fn parts_of(
     alloc: Global,
     sets: &Sets,
     j: usize,
-    tail: usize,
-    pairs: &[usize],
+    tails: &Tails<'_>,
 ) -> Result<Vec<Part>, NoMemory>
     requires set { j < set_count sets.now }
     requires field { sets.now.field ≡ Gf2 }
-    requires least { 2 ≤ tail }
-    requires most { tail ≤ 3 }
-    requires pairs { AreStarts (length sets.now.rows) 2 pairs.now }
+    requires least { 2 ≤ tails.now.places }
+    requires most { tails.now.places ≤ 3 }
+    requires pairs { AreStarts (length sets.now.rows) 2 tails.now.pairs.now }
     ensures some { IfOk result (λ ps. 0 < length ps.items) }
     ensures wide { IfOk result (λ ps. length (others sets.now j) ≤ 64 * length ps.items) }
-    ensures are { IfOk result (λ ps. AreParts sets.now j tail ps.items) }
+    ensures are { IfOk result (λ ps. AreParts sets.now j tails.now.places ps.items) }
 {
     let columns = columns_outside(alloc, sets.length(), sets.basis(j))?;
     let mut parts = Vec::new(alloc);
-    push_parts(alloc, sets, j, tail, pairs, &columns, &mut parts)?;
+    push_parts(alloc, sets, j, tails, &columns, &mut parts)?;
     Ok(parts)
 }
 
@@ -88,26 +91,25 @@ fn push_parts(
     alloc: Global,
     sets: &Sets,
     j: usize,
-    tail: usize,
-    pairs: &[usize],
+    tails: &Tails<'_>,
     columns: &[usize],
     parts: &mut Vec<Part>,
 ) -> Result<(), NoMemory>
     requires set { j < set_count sets.now }
     requires field { sets.now.field ≡ Gf2 }
-    requires least { 2 ≤ tail }
-    requires most { tail ≤ 3 }
-    requires pairs { AreStarts (length sets.now.rows) 2 pairs.now }
+    requires least { 2 ≤ tails.now.places }
+    requires most { tails.now.places ≤ 3 }
+    requires pairs { AreStarts (length sets.now.rows) 2 tails.now.pairs.now }
     requires columns { columns.now ≡ others sets.now j }
     requires none { parts.old.items ≡ [] }
     ensures some { IfOk result (λ _. 0 < length parts.new.items) }
     ensures wide { IfOk result (λ _. length columns.now ≤ 64 * length parts.new.items) }
-    ensures are { IfOk result (λ _. AreParts sets.now j tail parts.new.items) }
+    ensures are { IfOk result (λ _. AreParts sets.now j tails.now.places parts.new.items) }
 {
     let mut start = 0;
     loop {
         let end = columns.len().min(start + 64);
-        parts.push(part_of(alloc, sets, j, tail, pairs, &columns[start..end])?)?;
+        parts.push(part_of(alloc, sets, j, tails, &columns[start..end])?)?;
         if end == columns.len() {
             return Ok(());
         }

@@ -3,6 +3,6 @@ use Rattle.lc_distances.proofs.planes.add_three.Given as goal
 
 abbrev pub invariant-loop-i : goal.invariant-loop-i
 invariant-loop-i l = record {
-  done : (t : ℕ) → t < l.i → slice_index l.counts t ≡ slice_index l.initial.counts t + count_ones (bit_or (bit_xor l.s (slice_index l.fours t)) (bit_or (bit_xor l.r (slice_index l.twos t)) (bit_xor l.p (slice_index l.ones t))));
+  done : (t : ℕ) → t < l.i → slice_index l.counts t ≡ slice_index l.initial.counts t + count_ones (bit_or (bit_xor (slice_index l.head 2) (slice_index l.fours t)) (bit_or (bit_xor (slice_index l.head 1) (slice_index l.twos t)) (bit_xor (slice_index l.head 0) (slice_index l.ones t))));
   left : (t : ℕ) → l.i ≤ t → slice_index l.counts t ≡ slice_index l.initial.counts t;
 }

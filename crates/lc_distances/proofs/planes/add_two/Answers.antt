@@ -1,4 +1,4 @@
-use Rattle.std.proofs.Common.{◌≤◌, count_ones, slice_index, bit_or, bit_xor, arith}
+use Rattle.std.proofs.Common.{◌≤◌, slice_index, arith}
 use Rattle.std.proofs.lemmas.Nat.{ones-le}
 use lib.Bits.{or_lt, xor_lt}
 use Rattle.lc_distances.proofs.planes.add_two.Goals as goal
@@ -6,9 +6,8 @@ use Rattle.lc_distances.proofs.planes.add_two.Goals as goal
 pub overflow_add-counts : goal.overflow_add-counts
 overflow_add-counts c =
     let i = c.loop-i.i in
-    let ones = xor_lt 64 c.args.p (slice_index c.args.ones.now i) (omega (arith, c.ranges.p.fits)) (omega (arith, c.type_inv.ones i)) in
-    let twos = xor_lt 64 c.args.r (slice_index c.args.twos.now i) (omega (arith, c.ranges.r.fits)) (omega (arith, c.type_inv.twos i)) in
-    let x = bit_or (bit_xor c.args.r (slice_index c.args.twos.now i)) (bit_xor c.args.p (slice_index c.args.ones.now i)) in
-    let few : count_ones x ≤ 64 = ones-le 64 x (or_lt 64 _ _ twos ones) in
+    let ones = xor_lt 64 (slice_index c.args.head.now 0) (slice_index c.args.ones.now i) (omega arith) (omega (arith, c.type_inv.ones i)) in
+    let twos = xor_lt 64 (slice_index c.args.head.now 1) (slice_index c.args.twos.now i) (omega arith) (omega (arith, c.type_inv.twos i)) in
+    let few = ones-le 64 _ (or_lt 64 _ _ twos ones) in
     let old : slice_index c.loop-i.counts i ≤ 255 = rw (c.loop-i.invariant.left i (omega arith)) (c.requires.few i (omega (arith, c.loop-i-test.true, c.loop-i.auto.i-end))) in
     omega (arith, few, old)

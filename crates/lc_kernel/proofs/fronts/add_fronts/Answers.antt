@@ -15,8 +15,8 @@ loop-counts-init c = record {
   room = refl;
   stayed = omega arith;
   at = c.requires.at;
-  fronts = front_planes_first c.args.block.now.sets.now c.args.spot.now c.args.part c.args.grid.now.planes c.args.fronts.now _ c.args.block.now.rows c.args.block.now.independent c.requires.set (omega (arith, c.requires.many)) refl;
-  counted = part_start (others c.args.block.now.sets.now c.args.spot.now.set) c.args.part (length c.args.counts.now) (block_words c.args.block.now.sets.now c.args.block.now.plan.now.m c.args.block.now.number) c.args.counts.now c.requires.counted;
+  fronts = front_planes_first c.args.block.now.sets.now c.args.spot.now c.args.table.now.part c.args.table.now.grid.now.planes c.args.fronts.now _ c.args.block.now.rows c.args.block.now.independent c.requires.set (omega (arith, c.requires.many)) refl;
+  counted = part_start (others c.args.block.now.sets.now c.args.spot.now.set) c.args.table.now.part (length c.args.counts.now) (block_words c.args.block.now.sets.now c.args.block.now.plan.now.m c.args.block.now.number) c.args.counts.now c.requires.counted;
 }
 
 pub offset_bounds-fronts-level : goal.offset_bounds-fronts-level
@@ -37,10 +37,10 @@ loop-counts-preserved c = record {
   room = search rules;
   stayed = search rules;
   at = search rules;
-  fronts = front_planes_same c.args.block.now.sets.now c.loop-counts.spot c.pass-stayed.new.spot c.args.part c.args.grid.now.planes _ c.pass-stayed.result c.refresh_planes.new.fronts (omega (arith, c.pass-stayed.ensures.few, c.loop-counts.invariant.level)) c.pass-stayed.ensures.set c.pass-stayed.ensures.same c.refresh_planes.ensures.fronts;
+  fronts = front_planes_same c.args.block.now.sets.now c.loop-counts.spot c.pass-stayed.new.spot c.args.table.now.part c.args.table.now.grid.now.planes _ c.pass-stayed.result c.refresh_planes.new.fronts (omega (arith, c.pass-stayed.ensures.few, c.loop-counts.invariant.level)) c.pass-stayed.ensures.set c.pass-stayed.ensures.same c.refresh_planes.ensures.fronts;
   counted = search rules;
 }
 
 pub returns-then-done-count-clause-counted : goal.returns-then-done-count-clause-counted
 returns-then-done-count-clause-counted c =
-    rw (← c.loop-counts.invariant.set) (λ i l. part_end (others c.args.block.now.sets.now c.loop-counts.spot.set) c.args.part _ (length c.loop-counts.counts) (block_words c.args.block.now.sets.now c.args.block.now.plan.now.m c.args.block.now.number) _ (omega (arith, c.if-done-count.true)) c.one_front-count.ensures.counted i (omega (arith, l, c.loop-counts.auto.counts)))
+    rw (← c.loop-counts.invariant.set) (λ i l. part_end (others c.args.block.now.sets.now c.loop-counts.spot.set) c.args.table.now.part _ (length c.loop-counts.counts) (block_words c.args.block.now.sets.now c.args.block.now.plan.now.m c.args.block.now.number) _ (omega (arith, c.if-done-count.true)) c.one_front-count.ensures.counted i (omega (arith, l, c.loop-counts.auto.counts)))

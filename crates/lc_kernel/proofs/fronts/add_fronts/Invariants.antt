@@ -17,6 +17,6 @@ invariant-loop-counts l = record {
   room : l.spot.room ≡ l.initial.spot.room;
   stayed : l.stayed ≤ l.level - 2;
   at : IsSpotAt l.block.sets.now l.block.plan.now.m l.block.number l.done l.spot;
-  fronts : AreFrontPlanes l.block.sets.now l.spot l.part l.grid.planes l.stayed l.fronts;
-  counted : ArePartCounted (others l.block.sets.now l.spot.set) l.part (block_words l.block.sets.now l.block.plan.now.m l.block.number) l.done (length l.initial.counts) l.counts;
+  fronts : AreFrontPlanes l.block.sets.now l.spot l.table.part l.table.grid.now.planes l.stayed l.fronts;
+  counted : ArePartCounted (others l.block.sets.now l.spot.set) l.table.part (block_words l.block.sets.now l.block.plan.now.m l.block.number) l.done (length l.initial.counts) l.counts;
 }

@@ -52,17 +52,17 @@ run c =
     }
 
 -- the part of the table that the code reads
-part_read : (c : After-as_slice-tails) → IsGridPart c.args.block.now.sets.now c.args.spot.now.set (part_at (others c.args.block.now.sets.now c.args.spot.now.set) c.args.part) c.args.grid.now.planes c.index-table.result.now.rows.items c.index-table.result.now.bits.items
-part_read c = one_grid_part c.args.block.now.sets.now c.args.spot.now.set c.args.grid.now.planes c.args.part c.args.grid.now.parts.items c.index-table.result.now c.requires.grid.parts c.requires.part c.index-table.ensures
+part_read : (c : After-as_slice-tails) → IsGridPart c.args.block.now.sets.now c.args.spot.now.set (part_at (others c.args.block.now.sets.now c.args.spot.now.set) c.args.table.now.part) c.args.table.now.grid.now.planes c.index-part.result.now.rows.items c.index-part.result.now.bits.items
+part_read c = one_grid_part c.args.block.now.sets.now c.args.spot.now.set c.args.table.now.grid.now.planes c.args.table.now.part c.args.table.now.grid.now.parts.items c.index-part.result.now c.requires.grid.parts c.requires.part c.index-part.ensures
 
 -- what the parts before it have
-counted : (c : After-as_slice-tails) → AreCounted (take (64 * c.args.part) (others c.args.block.now.sets.now c.args.spot.now.set)) (block_words c.args.block.now.sets.now c.args.block.now.plan.now.m c.args.block.now.number) c.args.done (length (piece c)) (piece c)
-counted c = part_piece (others c.args.block.now.sets.now c.args.spot.now.set) c.args.part c.args.done (c.args.done + c.min-count.result) (length c.args.counts.now) (block_words c.args.block.now.sets.now c.args.block.now.plan.now.m c.args.block.now.number) c.args.counts.now c.requires.counted refl (within c)
+counted : (c : After-as_slice-tails) → AreCounted (take (64 * c.args.table.now.part) (others c.args.block.now.sets.now c.args.spot.now.set)) (block_words c.args.block.now.sets.now c.args.block.now.plan.now.m c.args.block.now.number) c.args.done (length (piece c)) (piece c)
+counted c = part_piece (others c.args.block.now.sets.now c.args.spot.now.set) c.args.table.now.part c.args.done (c.args.done + c.min-count.result) (length c.args.counts.now) (block_words c.args.block.now.sets.now c.args.block.now.plan.now.m c.args.block.now.number) c.args.counts.now c.requires.counted refl (within c)
 
 pub add_apart-requires-clause-long : goal.add_apart-requires-clause-long
 add_apart-requires-clause-long c =
     let part = part_read (goal.at.add_apart-requires-clause-long c).After-as_slice-tails in
-    ap length c.as_slice-tails.ensures.value ∙ part.planes.long ∙ ap (λ z. c.args.grid.now.planes * z) (sym c.requires.grid.count)
+    ap length c.as_slice-tails.ensures.value ∙ part.planes.long ∙ ap (λ z. c.args.table.now.grid.now.planes * z) (sym c.requires.grid.count)
 
 pub add_apart-requires-clause-room : goal.add_apart-requires-clause-room
 add_apart-requires-clause-room c =
@@ -73,8 +73,8 @@ pub add_apart-requires-clause-few : goal.add_apart-requires-clause-few
 add_apart-requires-clause-few c =
     let a = (goal.at.add_apart-requires-clause-few c).After-as_slice-tails in
     let all = others c.args.block.now.sets.now c.args.spot.now.set in
-    let few : length (take (64 * c.args.part) all) ≤ 255 = omega (arith, length-take (64 * c.args.part) all, others_few c.args.block.now.sets.now c.args.spot.now.set, c.args.block.now.short) in
-    counted_few c.args.block.now.sets.now c.args.block.now.plan.now.m c.args.block.now.number c.args.done (length (piece a)) (take (64 * c.args.part) all) (piece a) few (counted a)
+    let few : length (take (64 * c.args.table.now.part) all) ≤ 255 = omega (arith, length-take (64 * c.args.table.now.part) all, others_few c.args.block.now.sets.now c.args.spot.now.set, c.args.block.now.short) in
+    counted_few c.args.block.now.sets.now c.args.block.now.plan.now.m c.args.block.now.number c.args.done (length (piece a)) (take (64 * c.args.table.now.part) all) (piece a) few (counted a)
 
 pub returns-clause-counted : goal.returns-clause-counted
 returns-clause-counted c =
@@ -83,8 +83,8 @@ returns-clause-counted c =
     let m = c.args.block.now.plan.now.m in
     let b = c.args.block.now.number in
     let s = c.args.spot.now in
-    let n = c.args.grid.now.planes in
+    let n = c.args.table.now.grid.now.planes in
     let all = others C s.set in
-    let planes : AreTailPlanes C s.set (part_at all c.args.part) n c.as_slice-tails.result.now = subst (AreTailPlanes C s.set (part_at all c.args.part) n) (sym c.as_slice-tails.ensures.value) (part_read a).planes in
-    let more = tails_counted C m b c.args.done (start a) (length (piece a)) n c.args.part c.args.grid.now.tails s _ all (piece a) c.add_apart.new.counts c.args.head.now c.as_slice-tails.result.now (run a) c.requires.grid.planes c.requires.grid.count planes c.requires.head c.add_apart.ensures.is (counted a) in
-    part_joined all c.args.part c.args.done (c.args.done + c.min-count.result) (length c.args.counts.now) (block_words C m b) c.args.counts.now c.add_apart.new.counts c.requires.counted refl (omega arith) (within a) more c.add_apart.auto.counts
+    let planes : AreTailPlanes C s.set (part_at all c.args.table.now.part) n c.as_slice-tails.result.now = subst (AreTailPlanes C s.set (part_at all c.args.table.now.part) n) (sym c.as_slice-tails.ensures.value) (part_read a).planes in
+    let more = tails_counted C m b c.args.done (start a) (length (piece a)) n c.args.table.now.part c.args.table.now.grid.now.tails s _ all (piece a) c.add_apart.new.counts c.args.head.now c.as_slice-tails.result.now (run a) c.requires.grid.planes c.requires.grid.count planes c.requires.head c.add_apart.ensures.is (counted a) in
+    part_joined all c.args.table.now.part c.args.done (c.args.done + c.min-count.result) (length c.args.counts.now) (block_words C m b) c.args.counts.now c.add_apart.new.counts c.requires.counted refl (omega arith) (within a) more c.add_apart.auto.counts

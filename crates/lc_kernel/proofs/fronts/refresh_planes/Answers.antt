@@ -28,4 +28,4 @@ loop-i-preserved c =
     let few = (entries_are c.args.sets.now c.args.spot.now c.requires.message).few in
     let i = c.loop-i.i in
     let inside : i + 1 < length c.loop-i.fronts = omega (arith, few, c.loop-i-test.true, c.requires.inside, c.requires.many, c.loop-i.auto.fronts) in
-    front_planes_put c.args.sets.now c.args.spot.now c.args.part c.args.grid.now.planes i c.loop-i.fronts _ c.next_front-front.result refl inside c.loop-i.invariant c.next_front-front.ensures.is
+    front_planes_put c.args.sets.now c.args.spot.now c.args.table.now.part c.args.table.now.grid.now.planes i c.loop-i.fronts _ c.next_front-front.result refl inside c.loop-i.invariant c.next_front-front.ensures.is

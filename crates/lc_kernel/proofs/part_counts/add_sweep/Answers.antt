@@ -25,7 +25,7 @@ loop-counts-init c =
       at = listed_start _ _ _ 0 _ _ _ s c.set-set.ensures same c.requires.at c.requires.level c.list_of-list.ensures.is;
       lists = ap (λ u. list_count C (length u)) same ∙ lists_there C (length s.support) (length c.make_heads.new.heads) c.nonzero-elements.result c.requires.level (c.make_heads.auto.heads ∙ c.requires.many) c.nonzero-elements.ensures.is;
       heads = c.make_heads.ensures.heads;
-      counted = rw c.set-set.ensures (part_start (others C s.set) c.args.part (length c.args.counts.now) (block_words C c.args.block.now.plan.now.m c.args.block.now.number) c.args.counts.now c.requires.counted);
+      counted = rw c.set-set.ensures (part_start (others C s.set) c.args.table.now.part (length c.args.counts.now) (block_words C c.args.block.now.plan.now.m c.args.block.now.number) c.args.counts.now c.requires.counted);
     }
 
 pub add_support-requires-clause-lists : goal.add_support-requires-clause-lists
@@ -44,7 +44,7 @@ add_support-requires-clause-words c =
 
 pub add_support-requires-clause-counted : goal.add_support-requires-clause-counted
 add_support-requires-clause-counted c =
-    part_piece (others c.args.block.now.sets.now c.set-set.result) c.args.part c.loop-counts.done (c.loop-counts.done + c.words_left-count.result) (length c.args.counts.now) (block_words c.args.block.now.sets.now c.args.block.now.plan.now.m c.args.block.now.number) c.loop-counts.counts c.loop-counts.invariant.counted c.loop-counts.auto.counts
+    part_piece (others c.args.block.now.sets.now c.set-set.result) c.args.table.now.part c.loop-counts.done (c.loop-counts.done + c.words_left-count.result) (length c.args.counts.now) (block_words c.args.block.now.sets.now c.args.block.now.plan.now.m c.args.block.now.number) c.loop-counts.counts c.loop-counts.invariant.counted c.loop-counts.auto.counts
     (omega (arith, c.words_left-count.ensures.within, c.loop-counts.auto.counts, c.loop-counts.invariant.inside))
 
 pub turn-requires-clause-end : goal.turn-requires-clause-end
@@ -56,8 +56,8 @@ returns-then-end-counts c =
     let ws = block_words C c.args.block.now.plan.now.m c.args.block.now.number in
     let end = c.loop-counts.done + c.words_left-count.result in
     let within : end ≤ length c.args.counts.now = omega (arith, c.words_left-count.ensures.within, c.loop-counts.auto.counts, c.loop-counts.invariant.inside) in
-    let next = part_joined (others C c.set-set.result) c.args.part c.loop-counts.done end (length c.args.counts.now) ws c.loop-counts.counts c.add_support.new.counts c.loop-counts.invariant.counted c.loop-counts.auto.counts (omega arith) within c.add_support.ensures.counted c.add_support.auto.counts in
-    record { counted = rw (← c.set-set.ensures) (part_end (others C c.set-set.result) c.args.part end (length c.args.counts.now) ws _ (omega (arith, c.if-end-counts.true, c.loop-counts.auto.counts)) next) }
+    let next = part_joined (others C c.set-set.result) c.args.table.now.part c.loop-counts.done end (length c.args.counts.now) ws c.loop-counts.counts c.add_support.new.counts c.loop-counts.invariant.counted c.loop-counts.auto.counts (omega arith) within c.add_support.ensures.counted c.add_support.auto.counts in
+    record { counted = rw (← c.set-set.ensures) (part_end (others C c.set-set.result) c.args.table.now.part end (length c.args.counts.now) ws _ (omega (arith, c.if-end-counts.true, c.loop-counts.auto.counts)) next) }
 
 pub loop-counts-preserved : goal.loop-counts-preserved
 loop-counts-preserved c =
@@ -70,5 +70,5 @@ loop-counts-preserved c =
       at = search rules;
       lists = search rules;
       heads = search rules;
-      counted = part_joined (others C c.set-set.result) c.args.part c.loop-counts.done end (length c.args.counts.now) ws c.loop-counts.counts c.add_support.new.counts c.loop-counts.invariant.counted c.loop-counts.auto.counts (omega arith) within c.add_support.ensures.counted c.add_support.auto.counts;
+      counted = part_joined (others C c.set-set.result) c.args.table.now.part c.loop-counts.done end (length c.args.counts.now) ws c.loop-counts.counts c.add_support.new.counts c.loop-counts.invariant.counted c.loop-counts.auto.counts (omega arith) within c.add_support.ensures.counted c.add_support.auto.counts;
     }

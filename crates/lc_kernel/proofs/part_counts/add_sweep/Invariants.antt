@@ -13,6 +13,6 @@ invariant-loop-counts l = record {
   inside : l.done < length l.initial.counts;
   at : IsListedAt l.block.sets.now l.block.plan.now.m l.block.number l.done l.set l.support l.list;
   lists : list_count l.block.sets.now (length l.support) ≡ l.lists;
-  heads : AreHeads l.block.sets.now l.set l.support l.part l.grid.planes (length l.support - 2) l.heads;
-  counted : ArePartCounted (others l.block.sets.now l.set) l.part (block_words l.block.sets.now l.block.plan.now.m l.block.number) l.done (length l.initial.counts) l.counts;
+  heads : AreHeads l.block.sets.now l.set l.support l.table.part l.table.grid.now.planes (length l.support - 2) l.heads;
+  counted : ArePartCounted (others l.block.sets.now l.set) l.table.part (block_words l.block.sets.now l.block.plan.now.m l.block.number) l.done (length l.initial.counts) l.counts;
 }

@@ -15,33 +15,33 @@ use Rattle.lc_kernel.proofs.runs.count_part.Goals.{After-as_slice-sums}
 use Rattle.lc_kernel.proofs.runs.count_part.Goals as goal
 
 -- the part of the table that the code reads
-part_read : (c : After-as_slice-sums) → IsPart c.args.block.now.sets.now c.args.spot.now.set c.args.table.now.tail (part_at (others c.args.block.now.sets.now c.args.spot.now.set) c.args.part) c.index.result.now.rows.items c.index.result.now.sums.items
-part_read c = one_part c.args.block.now.sets.now c.args.spot.now.set c.args.table.now.tail c.args.part c.args.table.now.parts.items c.index.result.now c.requires.table.are c.requires.part c.index.ensures
+part_read : (c : After-as_slice-sums) → IsPart c.args.block.now.sets.now c.args.run.now.spot.now.set c.args.table.now.tail (part_at (others c.args.block.now.sets.now c.args.run.now.spot.now.set) c.args.part) c.index.result.now.rows.items c.index.result.now.sums.items
+part_read c = one_part c.args.block.now.sets.now c.args.run.now.spot.now.set c.args.table.now.tail c.args.part c.args.table.now.parts.items c.index.result.now c.requires.table.are c.requires.part c.index.ensures
 
 -- the counts with this part, from those without it
 with_part : (c : After-as_slice-sums) (old new : List ℕ)
-    → ((i : ℕ) → i < length c.args.counts.now → slice_index new i ≡ slice_index old i + count_ones (bit_xor (slice_index (take (c.args.start + length c.args.counts.now - c.args.start) (drop c.args.start c.as_slice-sums.result.now)) i) c.head_bits-prefix.result))
-    → AreCounted (take (64 * c.args.part) (others c.args.block.now.sets.now c.args.spot.now.set)) (block_words c.args.block.now.sets.now c.args.block.now.plan.now.m c.args.block.now.number) c.args.done (length c.args.counts.now) old
-    → AreCounted (take (64 * (c.args.part + 1)) (others c.args.block.now.sets.now c.args.spot.now.set)) (block_words c.args.block.now.sets.now c.args.block.now.plan.now.m c.args.block.now.number) c.args.done (length c.args.counts.now) new
+    → ((i : ℕ) → i < length c.args.counts.now → slice_index new i ≡ slice_index old i + count_ones (bit_xor (slice_index (take (c.args.run.now.start + length c.args.counts.now - c.args.run.now.start) (drop c.args.run.now.start c.as_slice-sums.result.now)) i) c.head_bits-prefix.result))
+    → AreCounted (take (64 * c.args.part) (others c.args.block.now.sets.now c.args.run.now.spot.now.set)) (block_words c.args.block.now.sets.now c.args.block.now.plan.now.m c.args.block.now.number) c.args.run.now.done (length c.args.counts.now) old
+    → AreCounted (take (64 * (c.args.part + 1)) (others c.args.block.now.sets.now c.args.run.now.spot.now.set)) (block_words c.args.block.now.sets.now c.args.block.now.plan.now.m c.args.block.now.number) c.args.run.now.done (length c.args.counts.now) new
 with_part c old new is counted =
     let C = c.args.block.now.sets.now in
-    let s = c.args.spot.now in
+    let s = c.args.run.now.spot.now in
     let m = c.args.block.now.plan.now.m in
     let t = c.args.table.now.tail in
     let cols = others C s.set in
-    let start = c.args.start in
+    let start = c.args.run.now.start in
     let many = length c.args.counts.now in
     let table = c.index.result.now in
-    let run = run_at C (part_at cols c.args.part) t m c.args.block.now.number c.args.done s table.rows.items table.sums.items c.head_bits-prefix.result start c.args.block.now.rows c.args.block.now.independent c.requires.set c.requires.at (omega (arith, c.requires.table.least)) c.requires.level (part_read c) c.head_bits-prefix.ensures.is c.requires.start in
+    let run = run_at C (part_at cols c.args.part) t m c.args.block.now.number c.args.run.now.done s table.rows.items table.sums.items c.head_bits-prefix.result start c.args.block.now.rows c.args.block.now.independent c.requires.set c.requires.at (omega (arith, c.requires.table.least)) c.requires.level (part_read c) c.head_bits-prefix.ensures.is c.requires.start in
     let n : start + many - start ≡ many = omega arith in
     let piece : take (start + many - start) (drop start c.as_slice-sums.result.now) ≡ take many (drop start table.sums.items) = ap (λ z. take z (drop start c.as_slice-sums.result.now)) n ∙ ap (λ z. take many (drop start z)) c.as_slice-sums.ensures.value in
-    part_counted C cols t m (phase_of_block c.args.block.now).0 c.args.block.now.number c.args.done start c.args.part many s table.rows.items table.sums.items old new (take (start + many - start) (drop start c.as_slice-sums.result.now)) c.head_bits-prefix.result (phase_of_block c.args.block.now).1 c.requires.at run c.requires.tails c.requires.words piece is counted
+    part_counted C cols t m (phase_of_block c.args.block.now).0 c.args.block.now.number c.args.run.now.done start c.args.part many s table.rows.items table.sums.items old new (take (start + many - start) (drop start c.as_slice-sums.result.now)) c.head_bits-prefix.result (phase_of_block c.args.block.now).1 c.requires.at run c.requires.tails c.requires.words piece is counted
 
 pub add_ones-requires-clause-few : goal.add_ones-requires-clause-few
 add_ones-requires-clause-few c =
-    let cols = take (64 * c.args.part) (others c.args.block.now.sets.now c.args.spot.now.set) in
-    let few : length cols ≤ 255 = omega (arith, length-take (64 * c.args.part) (others c.args.block.now.sets.now c.args.spot.now.set), others_few c.args.block.now.sets.now c.args.spot.now.set, c.args.block.now.short) in
-    counted_few c.args.block.now.sets.now c.args.block.now.plan.now.m c.args.block.now.number c.args.done (length c.args.counts.now) cols c.args.counts.now few (c.requires.counted (omega (arith, c.if-part-eq0.false)))
+    let cols = take (64 * c.args.part) (others c.args.block.now.sets.now c.args.run.now.spot.now.set) in
+    let few : length cols ≤ 255 = omega (arith, length-take (64 * c.args.part) (others c.args.block.now.sets.now c.args.run.now.spot.now.set), others_few c.args.block.now.sets.now c.args.run.now.spot.now.set, c.args.block.now.short) in
+    counted_few c.args.block.now.sets.now c.args.block.now.plan.now.m c.args.block.now.number c.args.run.now.done (length c.args.counts.now) cols c.args.counts.now few (c.requires.counted (omega (arith, c.if-part-eq0.false)))
 
 pub offset_bounds-sums-start-2 : goal.offset_bounds-sums-start-2
 offset_bounds-sums-start-2 c =
@@ -53,11 +53,11 @@ slice_bounds-add_ones-end c = omega (arith, c.requires.tails, (part_read (goal.a
 
 pub returns-then-part-eq0 : goal.returns-then-part-eq0
 returns-then-part-eq0 c =
-    let cols = others c.args.block.now.sets.now c.args.spot.now.set in
+    let cols = others c.args.block.now.sets.now c.args.run.now.spot.now.set in
     let words = block_words c.args.block.now.sets.now c.args.block.now.plan.now.m c.args.block.now.number in
     let zero : c.args.part ≡ 0 = omega (arith, c.if-part-eq0.true) in
     let plus : (x : ℕ) → x ≡ 0 + x = λ x. omega arith in
-    let none : AreCounted (take (64 * c.args.part) cols) words c.args.done (length c.args.counts.now) [] = λ i l. sym (ap (λ z. weight (restrict (take (64 * z) cols) (slice_index_or words (c.args.done + i) []))) zero) in
+    let none : AreCounted (take (64 * c.args.part) cols) words c.args.run.now.done (length c.args.counts.now) [] = λ i l. sym (ap (λ z. weight (restrict (take (64 * z) cols) (slice_index_or words (c.args.run.now.done + i) []))) zero) in
     record { counted = with_part (goal.at.returns-then-part-eq0 c).After-as_slice-sums [] c.put_ones.new.counts (λ i l. c.put_ones.ensures.is i l ∙ plus _) none }
 
 pub returns : goal.returns

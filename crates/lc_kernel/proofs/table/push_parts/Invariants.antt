@@ -9,5 +9,5 @@ abbrev pub invariant-loop-start : goal.invariant-loop-start
 invariant-loop-start l = record {
   start : l.start ≡ 64 * length l.parts.items;
   inside : l.start ≤ length l.columns;
-  are : AreParts l.sets l.j l.tail l.parts.items;
+  are : AreParts l.sets l.j l.tails.places l.parts.items;
 }
