@@ -60,13 +60,7 @@ pub(crate) fn row_planes(
 }
 
 // The planes of the sum of the first i + 1 entries, from those of the first i.
-fn next_front(
-    sets: &Sets,
-    table: &GridAt<'_>,
-    spot: &Spot,
-    front: &[u64; 4],
-    i: usize,
-) -> [u64; 4]
+fn next_front(sets: &Sets, table: &GridAt<'_>, spot: &Spot, front: &[u64; 4], i: usize) -> [u64; 4]
     requires set { spot.now.set < set_count sets.now }
     requires message { Contains (messages (length sets.now.rows) (size sets.now.field) (length spot.now.support))
         (spot_message spot.now) }
@@ -131,8 +125,8 @@ fn one_front(
     requires level { 3 ≤ length spot.now.support }
     requires grid { IsGrid block.now.sets.now spot.now.set table.now.grid.now }
     requires part { table.now.part < length table.now.grid.now.parts.items }
-    requires head { ArePlanes (part_at (others block.now.sets.now spot.now.set) table.now.part) table.now.grid.now.planes
-        (front_word block.now.sets.now spot.now (length spot.now.support - 2)) head.now }
+    requires head { ArePlanes (part_at (others block.now.sets.now spot.now.set) table.now.part)
+        table.now.grid.now.planes (front_word block.now.sets.now spot.now (length spot.now.support - 2)) head.now }
     requires some { done < length counts.old }
     requires words { length counts.old ≡ length (words_in block.now) }
     requires counted { ArePartCounted (others block.now.sets.now spot.now.set) table.now.part (words_in block.now) done

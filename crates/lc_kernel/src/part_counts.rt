@@ -16,12 +16,7 @@ use lc_distances::add_halves;
 use lc_place::Spot;
 
 // Adds what a part of the columns has to the counts of words of a block with one support, from one of its lists on.
-fn add_support(
-    sweep: &Sweep<'_>,
-    at: &Listed<'_>,
-    heads: &[[u64; 4]],
-    counts: &mut [u32],
-)
+fn add_support(sweep: &Sweep<'_>, at: &Listed<'_>, heads: &[[u64; 4]], counts: &mut [u32])
     requires set { sweep.now.set < set_count sweep.now.block.sets.now }
     requires at { IsListed sweep.now at.now.done at.now.support.now at.now.list }
     requires grid { IsGrid sweep.now.block.sets.now sweep.now.set sweep.now.grid.now }
@@ -82,7 +77,12 @@ fn add_sweep(
         let count = words_left(lists, list, counts.len() - done);
         let end = done + count;
         let piece = &mut counts[done..end];
-        add_support(&sweep, &Listed { support, list, done }, heads, piece);
+        let listed = Listed {
+            support,
+            list,
+            done,
+        };
+        add_support(&sweep, &listed, heads, piece);
         if end >= counts.len() {
             return;
         }
@@ -116,13 +116,6 @@ pub(crate) fn count_sweeps(
 {
     counts.fill(0);
     for part in 0..grid.parts.len() {
-        add_sweep(
-            block,
-            &GridAt { grid, part },
-            spot,
-            support,
-            heads,
-            counts,
-        );
+        add_sweep(block, &GridAt { grid, part }, spot, support, heads, counts);
     }
 }

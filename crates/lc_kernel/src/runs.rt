@@ -21,7 +21,7 @@ use lc_enumeration::{BLOCK, PLACES};
 use lc_infoset::Sets;
 use lc_place::Spot;
 
-// A run: the spot of its first message, the index of that one's tail, and its offset in the block.
+// A run: the spot of its first message, the index of the tail of that message, and its offset in the block.
 #[derive(Clone, Copy)]
 struct Run<'a> {
     spot: &'a Spot,
@@ -91,13 +91,7 @@ fn head_bits(sets: &Sets, table: &Table, part: usize, spot: &Spot) -> u64
 
 // Counts for a run what a part of the columns has: puts what the first part has in place of the old counts,
 // and adds what another has.
-fn count_part(
-    block: &Block<'_>,
-    table: &Table,
-    part: usize,
-    run: &Run<'_>,
-    counts: &mut [u32],
-)
+fn count_part(block: &Block<'_>, table: &Table, part: usize, run: &Run<'_>, counts: &mut [u32])
     requires set { run.now.spot.now.set < set_count block.now.sets.now }
     requires at { IsSpotIn block.now run.now.done run.now.spot.now }
     requires level { table.now.tail ≤ length run.now.spot.now.support }
@@ -125,12 +119,7 @@ fn count_part(
 }
 
 // Counts the nonzero symbols, outside the basis, of the words of a run.
-fn count_run(
-    block: &Block<'_>,
-    table: &Table,
-    run: &Run<'_>,
-    counts: &mut [u32],
-)
+fn count_run(block: &Block<'_>, table: &Table, run: &Run<'_>, counts: &mut [u32])
     requires set { run.now.spot.now.set < set_count block.now.sets.now }
     requires at { IsSpotIn block.now run.now.done run.now.spot.now }
     requires level { table.now.tail ≤ length run.now.spot.now.support }

@@ -33,8 +33,8 @@ pub(crate) struct Sweep<'a> {
     pub(crate) set: usize,
 }
 
-/// A place on the way: a support, the index of a list of coefficients among those of its level, and the offset in the block
-/// of that message.
+/// A message on the way: its support, the index of its coefficients among the lists of its level, and its offset in the
+/// block.
 #[derive(Clone, Copy)]
 pub(crate) struct Listed<'a> {
     pub(crate) support: &'a [usize],
@@ -329,7 +329,11 @@ pub(crate) fn least_sweeps(
     loop {
         let count = words_left(lists, list, counts.len() - done);
         let part = &mut counts[..count];
-        let listed = Listed { support, list, done };
+        let listed = Listed {
+            support,
+            list,
+            done,
+        };
         let (other, place) = least_support(&sweep, &listed, heads, least, part);
         let (best, index) = joined(least, at, other, place, done);
         if done + count >= counts.len() {

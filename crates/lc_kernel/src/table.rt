@@ -65,12 +65,7 @@ fn tail_places(sets: &Sets) -> usize
 }
 
 // The parts of set j.
-fn parts_of(
-    alloc: Global,
-    sets: &Sets,
-    j: usize,
-    tails: &Tails<'_>,
-) -> Result<Vec<Part>, NoMemory>
+fn parts_of(alloc: Global, sets: &Sets, j: usize, tails: &Tails<'_>) -> Result<Vec<Part>, NoMemory>
     requires set { j < set_count sets.now }
     requires field { sets.now.field ≡ Gf2 }
     requires least { 2 ≤ tails.now.places }
