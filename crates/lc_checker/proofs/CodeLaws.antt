@@ -5,7 +5,7 @@
 --   pivot_free, other_spanned  a column is a sum of multiples of the pivot columns before it exactly if it is no pivot
 --   greedy_pivots, basis_is    the first basis of all columns is that of the pivots
 --   echelon_is                 the echelon rows of the definition are the reduced matrix
-use Rattle.std.proofs.Common.{◌≡◌, ◌≢◌, ℕ, zero, suc, ◌+◌, ◌<◌, ◌≤◌, Bool, true, false, cond, ◌==◌, if◌then◌else◌, List, [], ◌∷◌, ◌++◌, map, find, filter, length, take, slice_index, slice_index_or, Contains, unwrap_or, refl, sym, ap, ap₂, subst, ◌∙◌, ⊎_elim, arith, append-nil}
+use Rattle.std.proofs.Common.{◌≡◌, ◌≢◌, ℕ, zero, suc, ◌+◌, ◌<◌, ◌≤◌, Bool, true, false, cond, List, [], ◌∷◌, ◌++◌, map, find, filter, length, take, slice_index, slice_index_or, Contains, unwrap_or, refl, sym, ap, ap₂, subst, ◌∙◌, ⊎_elim, arith, append-nil}
 use Rattle.std.proofs.lemmas.Bool.{cases_Bool, cases_lt, cases_eq}
 use Rattle.std.proofs.lemmas.List.{length-map, get_or_default, get_or-map, ext_get_or, get_or-take, length-take-le, take_all, take_more}
 use Rattle.std.proofs.lemmas.List.Elements.{filter-append}

@@ -8,7 +8,7 @@ ghost use Rattle.lc_checker.specs.Walk.{AreSums, words_over, found};
 ghost use Rattle.lc_vec.specs.Packed.{packed};
 ghost use Rattle.lc_checker.specs.Packed.{front_bits, ArePacked};
 
-use crate::walk::lighter_on;
+use crate::walk::{Walk, lighter_on};
 use lc_field::NoMemory;
 use lc_matrix::Matrix;
 use lc_vec::Word;
@@ -54,59 +54,47 @@ pub(crate) fn bits_of(word: &[u8]) -> u64
     bits
 }
 
-// Looks at the words of the supports of `width` places that begin with the first `depth` places of the support and go on from
-// row `from`, with the packed sum of the rows so far. If one of them is lighter, leaves the first such in the sum after `width`
-// rows.
+// Looks at the words of the supports of a walk that begin with the first `depth` places of the support and go on from row
+// `from`, with the packed sum of the rows so far. If one of them is lighter, leaves the first such in the sum after all rows of
+// its support.
 pub(crate) fn lighter_in_bits(
-    rows: &Matrix,
-    bits: &[u64],
-    distance: u64,
-    width: usize,
+    walk: &Walk<'_>,
     support: &mut [usize],
     sums: &mut [Word],
     depth: usize,
     from: usize,
     sum: u64,
 ) -> bool
-    requires some { 0 < width }
-    requires width { width ≤ length support.old }
-    requires depth { depth ≤ width }
-    requires from { from ≤ length rows.now.rows }
-    requires rows { length rows.now.rows ≤ 255 }
-    requires many { width < length sums.old }
-    requires sums { AreSums rows.now sums.old }
-    requires packed { ArePacked rows.now bits.now }
-    requires front { (t : ℕ) → t < depth → slice_index support.old t < length rows.now.rows }
-    requires sum { sum ≡ front_bits rows.now (take depth support.old) }
-    ensures is { found result (slice_index_or sums.new width [])
-        ≡ find (is_lighter distance)
-        (words_over rows.now.field rows.now.columns rows.now.rows (take depth support.old) from
-        (length rows.now.rows - from) (width - depth)) }
-    ensures sums { AreSums rows.now sums.new }
+    requires some { 0 < walk.now.width }
+    requires width { walk.now.width ≤ length support.old }
+    requires depth { depth ≤ walk.now.width }
+    requires from { from ≤ length walk.now.rows.now.rows }
+    requires rows { length walk.now.rows.now.rows ≤ 255 }
+    requires many { walk.now.width < length sums.old }
+    requires sums { AreSums walk.now.rows.now sums.old }
+    requires packed { ArePacked walk.now.rows.now walk.now.bits.now }
+    requires front { (t : ℕ) → t < depth → slice_index support.old t < length walk.now.rows.now.rows }
+    requires sum { sum ≡ front_bits walk.now.rows.now (take depth support.old) }
+    ensures is { found result (slice_index_or sums.new walk.now.width [])
+        ≡ find (is_lighter walk.now.distance)
+        (words_over walk.now.rows.now.field walk.now.rows.now.columns walk.now.rows.now.rows
+        (take depth support.old) from (length walk.now.rows.now.rows - from) (walk.now.width - depth)) }
+    ensures sums { AreSums walk.now.rows.now sums.new }
     ensures long { length support.new ≡ length support.old }
     ensures front { take depth support.new ≡ take depth support.old }
 {
-    let k = rows.rows();
+    let k = walk.rows.rows();
+    let width = walk.width;
     if depth == width {
-        return lighter_on(rows, distance, &support[..width], sums);
+        return lighter_on(walk.rows, walk.distance, &support[..width], sums);
     }
     for place in from..(k + 1 + depth).saturating_sub(width) {
-        let next = sum ^ bits[place];
-        if depth + 1 == width && !is_light(next, distance) {
+        let next = sum ^ walk.bits[place];
+        if depth + 1 == width && !is_light(next, walk.distance) {
             continue;
         }
         support[depth] = place;
-        if lighter_in_bits(
-            rows,
-            bits,
-            distance,
-            width,
-            support,
-            sums,
-            depth + 1,
-            place + 1,
-            next,
-        ) {
+        if lighter_in_bits(walk, support, sums, depth + 1, place + 1, next) {
             return true;
         }
     }

@@ -11,7 +11,7 @@ ghost use Rattle.lc_formats.specs.Certificate.{is_lighter};
 ghost use Rattle.lc_checker.specs.Walk.{AreSums, words_from};
 ghost use Rattle.lc_checker.specs.Heavy.{AreAllHeavy, AreMultiples, is_few};
 
-use crate::sums::{multiples_of, put_multiple};
+use crate::sums::{Multiples, multiples_of, put_multiple};
 use crate::walk::zeros;
 use lc_field::NoMemory;
 use lc_matrix::Matrix;
@@ -19,6 +19,13 @@ use lc_planes::{pack, pack_words, places_apart};
 use lc_span::{tail_rows, words_of};
 use lc_vec::Word;
 use std::alloc::Global;
+
+/// Tails: the words that the rows from `split` on span, as bits.
+#[derive(Clone, Copy)]
+struct Tails<'a, const P: usize, const N: usize> {
+    split: usize,
+    words: &'a [[[u64; P]; N]],
+}
 
 // Whether some word that these rows span isn't zero and is lighter than the distance. So if there is none, the words of no level
 // are.
@@ -78,10 +85,18 @@ fn in_parts<const P: usize, const N: usize>(
 {
     let split = split_of(rows);
     let list = words_of(alloc, rows, split, rows.rows())?;
-    let tails = pack_words::<P, N>(alloc, list.as_slice())?;
-    let multiples = multiples_of(alloc, rows)?;
+    let packed = pack_words::<P, N>(alloc, list.as_slice())?;
+    let words = multiples_of(alloc, rows)?;
     let mut sums = zeros(alloc, split + 2, rows.cols())?;
-    let light = some_lead::<P, N>(rows, &multiples, &tails, split, distance, &mut sums);
+    let multiples = Multiples {
+        rows,
+        words: &words,
+    };
+    let tails = Tails {
+        split,
+        words: &packed,
+    };
+    let light = some_lead::<P, N>(&multiples, &tails, distance, &mut sums);
     Ok(light)
 }
 
@@ -96,30 +111,31 @@ fn split_of(rows: &Matrix) -> usize
 
 // Whether some word that isn't zero is lighter than the distance: the words of the tails, and those that begin with a row.
 fn some_lead<const P: usize, const N: usize>(
-    rows: &Matrix,
-    multiples: &[Word],
-    tails: &[[[u64; P]; N]],
-    split: usize,
+    multiples: &Multiples<'_>,
+    tails: &Tails<'_, P, N>,
     distance: u64,
     sums: &mut [Word],
 ) -> bool
-    requires planes { (P ≤ 4) × (size rows.now.field ≤ 2 ^ P) }
-    requires parts { (N ≤ 4) × (rows.now.columns ≤ 64 * N) }
-    requires rows { length rows.now.rows ≤ 255 }
-    requires split { split ≤ length rows.now.rows }
-    requires tails { ArePacked P N (words rows.now.field rows.now.columns (drop split rows.now.rows)) tails.now }
-    requires room { split + 1 < length sums.old }
-    requires multiples { AreMultiples rows.now multiples.now }
-    requires sums { AreSums rows.now sums.old }
-    ensures heavy { result ≡ false → (w : List ℕ) → InSpan rows.now.field rows.now.columns rows.now.rows w →
+    requires planes { (P ≤ 4) × (size multiples.now.rows.now.field ≤ 2 ^ P) }
+    requires parts { (N ≤ 4) × (multiples.now.rows.now.columns ≤ 64 * N) }
+    requires rows { length multiples.now.rows.now.rows ≤ 255 }
+    requires split { tails.now.split ≤ length multiples.now.rows.now.rows }
+    requires tails { ArePacked P N
+        (words multiples.now.rows.now.field multiples.now.rows.now.columns
+        (drop tails.now.split multiples.now.rows.now.rows)) tails.now.words.now }
+    requires room { tails.now.split + 1 < length sums.old }
+    requires multiples { AreMultiples multiples.now.rows.now multiples.now.words.now }
+    requires sums { AreSums multiples.now.rows.now sums.old }
+    ensures heavy { result ≡ false → (w : List ℕ) →
+        InSpan multiples.now.rows.now.field multiples.now.rows.now.columns multiples.now.rows.now.rows w →
         is_lighter distance w ≡ false }
 {
-    if has_light_tail(&pack::<P, N>(sums[0].symbols()), tails, distance) {
+    if has_light_tail(&pack::<P, N>(sums[0].symbols()), tails.words, distance) {
         return true;
     }
-    for place in 0..split {
-        put_multiple(rows, multiples, place, 1, sums, 0);
-        if some_head::<P, N>(rows, multiples, tails, split, distance, place + 1, sums, 1) {
+    for place in 0..tails.split {
+        put_multiple(multiples, place, 1, sums, 0);
+        if some_head::<P, N>(multiples, tails, distance, place + 1, sums, 1) {
             return true;
         }
     }
@@ -128,44 +144,36 @@ fn some_lead<const P: usize, const N: usize>(
 
 // Whether some sum of the sum after `depth` rows and a word of the rows from `from` on isn't zero and is lighter than the distance.
 fn some_head<const P: usize, const N: usize>(
-    rows: &Matrix,
-    multiples: &[Word],
-    tails: &[[[u64; P]; N]],
-    split: usize,
+    multiples: &Multiples<'_>,
+    tails: &Tails<'_, P, N>,
     distance: u64,
     from: usize,
     sums: &mut [Word],
     depth: usize,
 ) -> bool
-    requires planes { (P ≤ 4) × (size rows.now.field ≤ 2 ^ P) }
-    requires parts { (N ≤ 4) × (rows.now.columns ≤ 64 * N) }
-    requires rows { length rows.now.rows ≤ 255 }
-    requires split { split ≤ length rows.now.rows }
-    requires from { from ≤ split }
-    requires tails { ArePacked P N (words rows.now.field rows.now.columns (drop split rows.now.rows)) tails.now }
-    requires room { depth + (split - from) + 1 < length sums.old }
-    requires multiples { AreMultiples rows.now multiples.now }
-    requires sums { AreSums rows.now sums.old }
-    ensures heavy { result ≡ false → AreAllHeavy distance rows.now (slice_index_or sums.old depth []) from }
-    ensures sums { AreSums rows.now sums.new }
+    requires planes { (P ≤ 4) × (size multiples.now.rows.now.field ≤ 2 ^ P) }
+    requires parts { (N ≤ 4) × (multiples.now.rows.now.columns ≤ 64 * N) }
+    requires rows { length multiples.now.rows.now.rows ≤ 255 }
+    requires split { tails.now.split ≤ length multiples.now.rows.now.rows }
+    requires from { from ≤ tails.now.split }
+    requires tails { ArePacked P N
+        (words multiples.now.rows.now.field multiples.now.rows.now.columns
+        (drop tails.now.split multiples.now.rows.now.rows)) tails.now.words.now }
+    requires room { depth + (tails.now.split - from) + 1 < length sums.old }
+    requires multiples { AreMultiples multiples.now.rows.now multiples.now.words.now }
+    requires sums { AreSums multiples.now.rows.now sums.old }
+    ensures heavy { result ≡ false →
+        AreAllHeavy distance multiples.now.rows.now (slice_index_or sums.old depth []) from }
+    ensures sums { AreSums multiples.now.rows.now sums.new }
     ensures kept { (t : ℕ) → t ≤ depth → slice_index_or sums.new t [] ≡ slice_index_or sums.old t [] }
 {
-    if has_light_tail(&pack::<P, N>(sums[depth].symbols()), tails, distance) {
+    if has_light_tail(&pack::<P, N>(sums[depth].symbols()), tails.words, distance) {
         return true;
     }
-    for place in from..split {
-        for c in 1..rows.field().size() {
-            put_multiple(rows, multiples, place, c as u8, sums, depth);
-            if some_head::<P, N>(
-                rows,
-                multiples,
-                tails,
-                split,
-                distance,
-                place + 1,
-                sums,
-                depth + 1,
-            ) {
+    for place in from..tails.split {
+        for c in 1..multiples.rows.field().size() {
+            put_multiple(multiples, place, c as u8, sums, depth);
+            if some_head::<P, N>(multiples, tails, distance, place + 1, sums, depth + 1) {
                 return true;
             }
         }

@@ -13,6 +13,13 @@ use lc_matrix::Matrix;
 use lc_vec::{Word, scale};
 use std::alloc::Global;
 
+/// Rows, and their multiples by 1, 2, .., row by row.
+#[derive(Clone, Copy)]
+pub(crate) struct Multiples<'a> {
+    pub(crate) rows: &'a Matrix,
+    pub(crate) words: &'a [Word],
+}
+
 // Whether some word of the levels 1 to `level` over these rows isn't zero and is lighter than the distance.
 pub(crate) fn has_lighter_sum(
     alloc: Global,
@@ -26,9 +33,13 @@ pub(crate) fn has_lighter_sum(
         (λ b. b ≡ false → None
         ≡ find (lighter_than distance) (words_from rows.now.field rows.now.columns rows.now.rows 1 level)) }
 {
-    let multiples = multiples_of(alloc, rows)?;
+    let words = multiples_of(alloc, rows)?;
     let mut sums = zeros(alloc, level + 2, rows.cols())?;
-    let light = some_lighter_word(rows, &multiples, distance, level, &mut sums);
+    let multiples = Multiples {
+        rows,
+        words: &words,
+    };
+    let light = some_lighter_word(&multiples, distance, level, &mut sums);
     Ok(light)
 }
 
@@ -58,26 +69,26 @@ fn multiple(alloc: Global, rows: &Matrix, i: usize, c: u8) -> Result<Word, NoMem
 
 // Makes the sum after `depth` + 1 rows from the one after `depth`: adds `c` times the row at `place`.
 pub(crate) fn put_multiple(
-    rows: &Matrix,
-    multiples: &[Word],
+    multiples: &Multiples<'_>,
     place: usize,
     c: u8,
     sums: &mut [Word],
     depth: usize,
 )
-    requires row { place < length rows.now.rows }
-    requires rows { length rows.now.rows ≤ 255 }
-    requires element { (0 < c) × (c < size rows.now.field) }
+    requires row { place < length multiples.now.rows.now.rows }
+    requires rows { length multiples.now.rows.now.rows ≤ 255 }
+    requires element { (0 < c) × (c < size multiples.now.rows.now.field) }
     requires many { depth + 1 < length sums.old }
-    requires multiples { AreMultiples rows.now multiples.now }
-    requires sums { AreSums rows.now sums.old }
+    requires multiples { AreMultiples multiples.now.rows.now multiples.now.words.now }
+    requires sums { AreSums multiples.now.rows.now sums.old }
     ensures is { slice_index_or sums.new (depth + 1) []
-        ≡ word_sum rows.now.field (slice_index_or sums.old depth [])
-        (scale rows.now.field c (slice_index_or rows.now.rows place [])) }
-    ensures sums { AreSums rows.now sums.new }
+        ≡ word_sum multiples.now.rows.now.field (slice_index_or sums.old depth [])
+        (scale multiples.now.rows.now.field c (slice_index_or multiples.now.rows.now.rows place [])) }
+    ensures sums { AreSums multiples.now.rows.now sums.new }
     ensures kept { (t : ℕ) → t ≤ depth → slice_index_or sums.new t [] ≡ slice_index_or sums.old t [] }
 {
-    let row = &multiples[place * (rows.field().size() as usize - 1) + (c as usize - 1)];
+    let Multiples { rows, words } = *multiples;
+    let row = &words[place * (rows.field().size() as usize - 1) + (c as usize - 1)];
     let (before, rest) = sums.split_at_mut(depth + 1);
     rest[0].put_added(rows.field(), before[depth].symbols(), row.symbols());
 }
@@ -85,8 +96,7 @@ pub(crate) fn put_multiple(
 // Whether some sum of the sum after `depth` rows and nonzero multiples of 1 to `width` rows, from row `from` on, isn't zero and
 // is lighter than the distance.
 fn some_lighter(
-    rows: &Matrix,
-    multiples: &[Word],
+    multiples: &Multiples<'_>,
     distance: u64,
     width: usize,
     from: usize,
@@ -94,29 +104,23 @@ fn some_lighter(
     depth: usize,
 ) -> bool
     requires room { depth + width + 1 < length sums.old }
-    requires rows { length rows.now.rows ≤ 255 }
-    requires multiples { AreMultiples rows.now multiples.now }
-    requires sums { AreSums rows.now sums.old }
-    ensures heavy { result ≡ false → AreHeavy distance rows.now (slice_index_or sums.old depth []) from width }
-    ensures sums { AreSums rows.now sums.new }
+    requires rows { length multiples.now.rows.now.rows ≤ 255 }
+    requires multiples { AreMultiples multiples.now.rows.now multiples.now.words.now }
+    requires sums { AreSums multiples.now.rows.now sums.old }
+    ensures heavy { result ≡ false →
+        AreHeavy distance multiples.now.rows.now (slice_index_or sums.old depth []) from width }
+    ensures sums { AreSums multiples.now.rows.now sums.new }
     ensures kept { (t : ℕ) → t ≤ depth → slice_index_or sums.new t [] ≡ slice_index_or sums.old t [] }
 {
+    let rows = multiples.rows;
     for place in from..rows.rows() {
         for c in 1..rows.field().size() {
-            put_multiple(rows, multiples, place, c as u8, sums, depth);
+            put_multiple(multiples, place, c as u8, sums, depth);
             if is_lighter(sums[depth + 1].symbols(), distance) {
                 return true;
             }
             if 1 < width
-                && some_lighter(
-                    rows,
-                    multiples,
-                    distance,
-                    width - 1,
-                    place + 1,
-                    sums,
-                    depth + 1,
-                )
+                && some_lighter(multiples, distance, width - 1, place + 1, sums, depth + 1)
             {
                 return true;
             }
@@ -128,26 +132,27 @@ fn some_lighter(
 // Whether some word of the levels 1 to `level` over these rows isn't zero and is lighter than the distance. Messages begin with
 // a 1.
 fn some_lighter_word(
-    rows: &Matrix,
-    multiples: &[Word],
+    multiples: &Multiples<'_>,
     distance: u64,
     level: usize,
     sums: &mut [Word],
 ) -> bool
     requires room { level + 1 < length sums.old }
-    requires rows { length rows.now.rows ≤ 255 }
-    requires multiples { AreMultiples rows.now multiples.now }
-    requires sums { AreSums rows.now sums.old }
+    requires rows { length multiples.now.rows.now.rows ≤ 255 }
+    requires multiples { AreMultiples multiples.now.rows.now multiples.now.words.now }
+    requires sums { AreSums multiples.now.rows.now sums.old }
     ensures none { result ≡ false →
-        None ≡ find (lighter_than distance) (words_from rows.now.field rows.now.columns rows.now.rows 1 level) }
-    ensures sums { AreSums rows.now sums.new }
+        None ≡ find (lighter_than distance)
+        (words_from multiples.now.rows.now.field multiples.now.rows.now.columns multiples.now.rows.now.rows 1 level) }
+    ensures sums { AreSums multiples.now.rows.now sums.new }
 {
+    let rows = multiples.rows;
     for place in 0..rows.rows() {
-        put_multiple(rows, multiples, place, 1, sums, 0);
+        put_multiple(multiples, place, 1, sums, 0);
         if is_lighter(sums[1].symbols(), distance) {
             return true;
         }
-        if 1 < level && some_lighter(rows, multiples, distance, level - 1, place + 1, sums, 1) {
+        if 1 < level && some_lighter(multiples, distance, level - 1, place + 1, sums, 1) {
             return true;
         }
     }

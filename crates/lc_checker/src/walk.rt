@@ -16,6 +16,16 @@ use lc_matrix::Matrix;
 use lc_vec::{Word, weight};
 use std::alloc::Global;
 
+/// A walk through the words of a level, to one that is lighter than the distance. They are sums of nonzero multiples of `width`
+/// rows. The rows are also there as bits, or `bits` is empty.
+#[derive(Clone, Copy)]
+pub(crate) struct Walk<'a> {
+    pub(crate) rows: &'a Matrix,
+    pub(crate) bits: &'a [u64],
+    pub(crate) distance: u64,
+    pub(crate) width: usize,
+}
+
 // The first word of the levels 1 to `level` over these rows that is lighter than the distance, and not zero. Whether there is
 // one is seen first, in the quickest order.
 pub(crate) fn first_lighter(
@@ -105,40 +115,40 @@ fn lighter_through(
     ensures none { IfNone result
         (None ≡ find (is_lighter distance) (words_from rows.now.field rows.now.columns rows.now.rows 1 level)) }
 {
-    for w in 1..level + 1 {
-        if lighter_on_level(rows, bits, distance, w, support, sums) {
-            return Some(w);
+    for width in 1..level + 1 {
+        let walk = Walk {
+            rows,
+            bits,
+            distance,
+            width,
+        };
+        if lighter_on_level(&walk, support, sums) {
+            return Some(width);
         }
     }
     None
 }
 
-// Looks at the words of a level. If one of them is lighter, leaves the first such in the sum after `width` rows.
+// Looks at the words of a level. If one of them is lighter, leaves the first such in the sum after all rows of its support.
 #[tactic(auto, using(crate::proofs::PackedLaws::front_start))]
-fn lighter_on_level(
-    rows: &Matrix,
-    bits: &[u64],
-    distance: u64,
-    width: usize,
-    support: &mut [usize],
-    sums: &mut [Word],
-) -> bool
-    requires some { 0 < width }
-    requires width { width ≤ length support.old }
-    requires rows { length rows.now.rows ≤ 255 }
-    requires many { width < length sums.old }
-    requires sums { AreSums rows.now sums.old }
-    requires packed { 0 < length bits.now → ArePacked rows.now bits.now }
-    ensures is { found result (slice_index_or sums.new width [])
-        ≡ find (is_lighter distance)
-        (words_over rows.now.field rows.now.columns rows.now.rows [] 0 (length rows.now.rows - 0) (width - 0)) }
-    ensures sums { AreSums rows.now sums.new }
+fn lighter_on_level(walk: &Walk<'_>, support: &mut [usize], sums: &mut [Word]) -> bool
+    requires some { 0 < walk.now.width }
+    requires width { walk.now.width ≤ length support.old }
+    requires rows { length walk.now.rows.now.rows ≤ 255 }
+    requires many { walk.now.width < length sums.old }
+    requires sums { AreSums walk.now.rows.now sums.old }
+    requires packed { 0 < length walk.now.bits.now → ArePacked walk.now.rows.now walk.now.bits.now }
+    ensures is { found result (slice_index_or sums.new walk.now.width [])
+        ≡ find (is_lighter walk.now.distance)
+        (words_over walk.now.rows.now.field walk.now.rows.now.columns walk.now.rows.now.rows [] 0
+        (length walk.now.rows.now.rows - 0) (walk.now.width - 0)) }
+    ensures sums { AreSums walk.now.rows.now sums.new }
     ensures long { length support.new ≡ length support.old }
 {
-    if bits.len() == 0 {
-        return lighter_over(rows, distance, width, support, sums, 0, 0);
+    if walk.bits.len() == 0 {
+        return lighter_over(walk, support, sums, 0, 0);
     }
-    lighter_in_bits(rows, bits, distance, width, support, sums, 0, 0, 0)
+    lighter_in_bits(walk, support, sums, 0, 0, 0)
 }
 
 // So many zero words of n symbols.
@@ -153,40 +163,39 @@ pub(crate) fn zeros(alloc: Global, many: usize, n: usize) -> Result<Vec<Word>, N
     Ok(words)
 }
 
-// Looks at the words of the supports of `width` places that begin with the first `depth` places of the support and go on from
-// row `from`. If one of them is lighter, leaves the first such in the sum after `width` rows.
+// Looks at the words of the supports of a walk that begin with the first `depth` places of the support and go on from row
+// `from`. If one of them is lighter, leaves the first such in the sum after all rows of its support.
 fn lighter_over(
-    rows: &Matrix,
-    distance: u64,
-    width: usize,
+    walk: &Walk<'_>,
     support: &mut [usize],
     sums: &mut [Word],
     depth: usize,
     from: usize,
 ) -> bool
-    requires some { 0 < width }
-    requires width { width ≤ length support.old }
-    requires depth { depth ≤ width }
-    requires from { from ≤ length rows.now.rows }
-    requires rows { length rows.now.rows ≤ 255 }
-    requires many { width < length sums.old }
-    requires sums { AreSums rows.now sums.old }
-    requires front { (t : ℕ) → t < depth → slice_index support.old t < length rows.now.rows }
-    ensures is { found result (slice_index_or sums.new width [])
-        ≡ find (is_lighter distance)
-        (words_over rows.now.field rows.now.columns rows.now.rows (take depth support.old) from
-        (length rows.now.rows - from) (width - depth)) }
-    ensures sums { AreSums rows.now sums.new }
+    requires some { 0 < walk.now.width }
+    requires width { walk.now.width ≤ length support.old }
+    requires depth { depth ≤ walk.now.width }
+    requires from { from ≤ length walk.now.rows.now.rows }
+    requires rows { length walk.now.rows.now.rows ≤ 255 }
+    requires many { walk.now.width < length sums.old }
+    requires sums { AreSums walk.now.rows.now sums.old }
+    requires front { (t : ℕ) → t < depth → slice_index support.old t < length walk.now.rows.now.rows }
+    ensures is { found result (slice_index_or sums.new walk.now.width [])
+        ≡ find (is_lighter walk.now.distance)
+        (words_over walk.now.rows.now.field walk.now.rows.now.columns walk.now.rows.now.rows
+        (take depth support.old) from (length walk.now.rows.now.rows - from) (walk.now.width - depth)) }
+    ensures sums { AreSums walk.now.rows.now sums.new }
     ensures long { length support.new ≡ length support.old }
     ensures front { take depth support.new ≡ take depth support.old }
 {
-    let k = rows.rows();
+    let k = walk.rows.rows();
+    let width = walk.width;
     if depth == width {
-        return lighter_on(rows, distance, &support[..width], sums);
+        return lighter_on(walk.rows, walk.distance, &support[..width], sums);
     }
     for place in from..(k + 1 + depth).saturating_sub(width) {
         support[depth] = place;
-        if lighter_over(rows, distance, width, support, sums, depth + 1, place + 1) {
+        if lighter_over(walk, support, sums, depth + 1, place + 1) {
             return true;
         }
     }

@@ -7,17 +7,17 @@ use Rattle.lc_checker.proofs.bits.+lighter_in_bits.Goals as goal
 
 pub returns-then-depth-width-clause-is : goal.returns-then-depth-width-clause-is
 returns-then-depth-width-clause-is t c =
-    let rows = c.args.rows.now in
+    let rows = c.args.walk.now.rows.now in
     let same = c.if-depth-width.true in
-    let long = length-take-le c.args.width c.args.support.now c.requires.width in
+    let long = length-take-le c.args.walk.now.width c.args.support.now c.requires.width in
     ap (λ w. found c.lighter_on.result (slice_index_or c.lighter_on.new.sums w [])) (sym long)
-    ∙ over_whole rows.field rows.columns rows.rows c.args.distance c.args.from (length rows.rows - c.args.from) (c.args.width - c.args.depth) (take c.args.depth c.args.support.now) _ (omega (arith, same))
+    ∙ over_whole rows.field rows.columns rows.rows c.args.walk.now.distance c.args.from (length rows.rows - c.args.from) (c.args.walk.now.width - c.args.depth) (take c.args.depth c.args.support.now) _ (omega (arith, same))
     (rw same c.lighter_on.ensures.is)
 
 pub lighter_in_bits-requires : goal.lighter_in_bits-requires
 lighter_in_bits-requires t c =
     let inside : c.args.depth < length c.loop-place.support = omega (arith, c.loop-place.invariant.long, c.requires.width, c.requires.depth, c.if-depth-width.false) in
-    let row : c.loop-place.place < length c.args.rows.now.rows = omega (arith, c.loop-place-test.true, c.saturating_sub-place-end.ensures, c.rows-k.ensures.is, c.requires.depth, c.if-depth-width.false) in (
+    let row : c.loop-place.place < length c.args.walk.now.rows.now.rows = omega (arith, c.loop-place-test.true, c.saturating_sub-place-end.ensures, c.rows-k.ensures.is, c.requires.depth, c.if-depth-width.false) in (
       omega (arith, c.requires.depth, c.if-depth-width.false),
       (
         c.requires.some,
@@ -36,8 +36,8 @@ lighter_in_bits-requires t c =
                     (
                       c.requires.packed,
                       (
-                        front_inside c.loop-place.support c.args.support.now c.args.depth c.loop-place.place (length c.args.rows.now.rows) inside row c.loop-place.invariant.front c.requires.front,
-                        front_next c.args.rows.now c.args.bits.now (take c.args.depth c.args.support.now) _ c.loop-place.place c.args.sum c.requires.packed (front_within c.args.support.now c.args.depth (length c.args.rows.now.rows) (omega (arith, c.requires.width, c.requires.depth)) c.requires.front) row (front_longer c.loop-place.support c.args.support.now c.args.depth c.loop-place.place inside c.loop-place.invariant.front) c.requires.sum,
+                        front_inside c.loop-place.support c.args.support.now c.args.depth c.loop-place.place (length c.args.walk.now.rows.now.rows) inside row c.loop-place.invariant.front c.requires.front,
+                        front_next c.args.walk.now.rows.now c.args.walk.now.bits.now (take c.args.depth c.args.support.now) _ c.loop-place.place c.args.sum c.requires.packed (front_within c.args.support.now c.args.depth (length c.args.walk.now.rows.now.rows) (omega (arith, c.requires.width, c.requires.depth)) c.requires.front) row (front_longer c.loop-place.support c.args.support.now c.args.depth c.loop-place.place inside c.loop-place.invariant.front) c.requires.sum,
                       ),
                     ),
                   ),
@@ -51,10 +51,10 @@ lighter_in_bits-requires t c =
 
 pub returns-then-lighter_in_bits-clause-is : goal.returns-then-lighter_in_bits-clause-is
 returns-then-lighter_in_bits-clause-is t c =
-    let rows = c.args.rows.now in
+    let rows = c.args.walk.now.rows.now in
     let inside : c.args.depth < length c.loop-place.support = omega (arith, c.loop-place.invariant.long, c.requires.width, c.requires.depth, c.if-depth-width.false) in
-    let row : c.loop-place.place < length c.args.rows.now.rows = omega (arith, c.loop-place-test.true, c.saturating_sub-place-end.ensures, c.rows-k.ensures.is, c.requires.depth, c.if-depth-width.false) in
-    over_found rows.field rows.columns rows.rows c.args.distance c.loop-place.place (length rows.rows) (c.args.width - c.args.depth) (c.args.width - (c.args.depth + 1)) (take c.args.depth c.args.support.now) _ _ _ _
+    let row : c.loop-place.place < length c.args.walk.now.rows.now.rows = omega (arith, c.loop-place-test.true, c.saturating_sub-place-end.ensures, c.rows-k.ensures.is, c.requires.depth, c.if-depth-width.false) in
+    over_found rows.field rows.columns rows.rows c.args.walk.now.distance c.loop-place.place (length rows.rows) (c.args.walk.now.width - c.args.depth) (c.args.walk.now.width - (c.args.depth + 1)) (take c.args.depth c.args.support.now) _ _ _ _
     row (omega (arith, c.requires.depth, c.if-depth-width.false)) (front_longer c.loop-place.support c.args.support.now c.args.depth c.loop-place.place inside c.loop-place.invariant.front) c.loop-place.invariant.rest c.lighter_in_bits.ensures.is c.if-lighter_in_bits.true
 
 pub returns-then-lighter_in_bits-clause-front : goal.returns-then-lighter_in_bits-clause-front
@@ -62,31 +62,31 @@ returns-then-lighter_in_bits-clause-front t c = front_kept c.loop-place.support 
 
 pub loop-place-preserved : goal.loop-place-preserved
 loop-place-preserved t c =
-    let rows = c.args.rows.now in
+    let rows = c.args.walk.now.rows.now in
     let inside : c.args.depth < length c.loop-place.support = omega (arith, c.loop-place.invariant.long, c.requires.width, c.requires.depth, c.if-depth-width.false) in
-    let row : c.loop-place.place < length c.args.rows.now.rows = omega (arith, c.loop-place-test.true, c.saturating_sub-place-end.ensures, c.rows-k.ensures.is, c.requires.depth, c.if-depth-width.false) in
+    let row : c.loop-place.place < length c.args.walk.now.rows.now.rows = omega (arith, c.loop-place-test.true, c.saturating_sub-place-end.ensures, c.rows-k.ensures.is, c.requires.depth, c.if-depth-width.false) in
     record {
       sums = c.lighter_in_bits.ensures.sums;
       long = c.lighter_in_bits.ensures.long ∙ length-set c.loop-place.support c.args.depth c.loop-place.place ∙ c.loop-place.invariant.long;
       front = front_kept c.loop-place.support c.args.support.now c.lighter_in_bits.new.support c.args.depth c.loop-place.place c.lighter_in_bits.ensures.front c.loop-place.invariant.front;
-      rest = over_passed rows.field rows.columns rows.rows c.args.distance c.loop-place.place (length rows.rows) (c.args.width - c.args.depth) (c.args.width - (c.args.depth + 1)) (take c.args.depth c.args.support.now) _ _ _ _
+      rest = over_passed rows.field rows.columns rows.rows c.args.walk.now.distance c.loop-place.place (length rows.rows) (c.args.walk.now.width - c.args.depth) (c.args.walk.now.width - (c.args.depth + 1)) (take c.args.depth c.args.support.now) _ _ _ _
           row (omega (arith, c.requires.depth, c.if-depth-width.false)) (front_longer c.loop-place.support c.args.support.now c.args.depth c.loop-place.place inside c.loop-place.invariant.front) c.loop-place.invariant.rest c.lighter_in_bits.ensures.is c.if-lighter_in_bits.false;
     }
 
 pub returns-clause-is : goal.returns-clause-is
 returns-clause-is t c =
-    let rows = c.args.rows.now in
-    over_end rows.field rows.columns rows.rows c.args.distance c.loop-place.place (length rows.rows - c.loop-place.place) (c.args.width - c.args.depth) (take c.args.depth c.args.support.now) _ _
+    let rows = c.args.walk.now.rows.now in
+    over_end rows.field rows.columns rows.rows c.args.walk.now.distance c.loop-place.place (length rows.rows - c.loop-place.place) (c.args.walk.now.width - c.args.depth) (take c.args.depth c.args.support.now) _ _
     (omega (arith, c.loop-place-test.false, c.saturating_sub-place-end.ensures, c.rows-k.ensures.is, c.requires.depth, c.if-depth-width.false, c.loop-place.auto.place)) c.loop-place.invariant.rest
 
 pub loop-place-preserved-then-not-is_light : goal.loop-place-preserved-then-not-is_light
 loop-place-preserved-then-not-is_light t c =
-    let rows = c.args.rows.now in
+    let rows = c.args.walk.now.rows.now in
     let row : c.loop-place.place < length rows.rows = omega (arith, c.loop-place-test.true, c.saturating_sub-place-end.ensures, c.rows-k.ensures.is, c.requires.depth, c.if-depth-width.false) in
     record {
       sums = c.loop-place.invariant.sums;
       long = c.loop-place.invariant.long;
       front = c.loop-place.invariant.front;
-      rest = leaf_passed rows c.args.bits.now (take c.args.depth c.args.support.now) c.args.distance c.loop-place.place (c.args.width - c.args.depth) c.args.sum c.is_light.result _ c.requires.packed
+      rest = leaf_passed rows c.args.walk.now.bits.now (take c.args.depth c.args.support.now) c.args.walk.now.distance c.loop-place.place (c.args.walk.now.width - c.args.depth) c.args.sum c.is_light.result _ c.requires.packed
           (front_within c.args.support.now c.args.depth (length rows.rows) (omega (arith, c.requires.width, c.requires.depth)) c.requires.front) row (omega (arith, c.if-depth-width-2.true)) c.requires.sum c.is_light.ensures.is c.if-not-is_light.true c.loop-place.invariant.rest;
     }

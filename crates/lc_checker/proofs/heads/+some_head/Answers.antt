@@ -1,4 +1,4 @@
-use Rattle.std.proofs.Common.{◌≡◌, ◌+◌, ◌-◌, ◌<◌, ◌≤◌, ℕ, [], length, slice_index_or, refl, sym, ap, subst, ◌∙◌, ⊎_elim, arith}
+use Rattle.std.proofs.Common.{◌≡◌, ◌+◌, ◌<◌, [], length, slice_index_or, refl, ap, subst, ◌∙◌, ⊎_elim, arith}
 use Rattle.std.proofs.lemmas.Bool.{cases_lt}
 use Rattle.std.proofs.lemmas.List.{get_or_default}
 use Rattle.lc_algebra.specs.Field.{size}
@@ -18,7 +18,7 @@ loop-c-init g t c = record {
 
 pub loop-c-preserved : goal.loop-c-preserved
 loop-c-preserved g t c =
-    let rows = c.args.rows.now in
+    let rows = c.args.multiples.now.rows.now in
     let d = c.args.distance in
     let p = c.loop-place.place in
     let a = slice_index_or c.loop-place.sums c.args.depth [] in
@@ -38,7 +38,7 @@ loop-c-preserved g t c =
 
 pub loop-place-preserved : goal.loop-place-preserved
 loop-place-preserved g t c =
-    let rows = c.args.rows.now in
+    let rows = c.args.multiples.now.rows.now in
     let d = c.args.distance in
     let p = c.loop-place.place in
     let a = slice_index_or c.args.sums.now c.args.depth [] in
@@ -55,11 +55,11 @@ loop-place-preserved g t c =
 
 pub returns-clause-heavy : goal.returns-clause-heavy
 returns-clause-heavy g t c = λ _.
-    let C = c.args.rows.now in
+    let C = c.args.multiples.now.rows.now in
     let d = c.args.distance in
     let a = slice_index_or c.args.sums.now c.args.depth [] in
     let there : c.args.depth < length c.args.sums.now = omega (arith, c.requires.room) in
     let is : c.symbols.result.now ≡ a = c.symbols.ensures.are ∙ get_or_default c.args.sums.now c.args.depth c.index-sums-depth.result [] there in
-    let end : c.args.split ≡ c.loop-place.place = omega (arith, c.loop-place-test.false, c.loop-place.auto.place-end) in
+    let end : c.args.tails.now.split ≡ c.loop-place.place = omega (arith, c.loop-place-test.false, c.loop-place.auto.place-end) in
     c.loop-place.invariant.heavy (subst (AreAllHeavy d C a) end
-    (all_heavy_tails g.row.P g.row.N d C a c.args.split c.pack.result c.args.tails.now c.requires.multiples.words c.requires.planes.1 c.requires.parts.1 (c.requires.sums.words c.args.depth there) (subst (λ w. IsPacked g.row.P g.row.N w c.pack.result) is c.pack.ensures.is) c.requires.tails (c.has_light_tail.ensures.none c.if-has_light_tail.false)))
+    (all_heavy_tails g.row.P g.row.N d C a c.args.tails.now.split c.pack.result c.args.tails.now.words.now c.requires.multiples.words c.requires.planes.1 c.requires.parts.1 (c.requires.sums.words c.args.depth there) (subst (λ w. IsPacked g.row.P g.row.N w c.pack.result) is c.pack.ensures.is) c.requires.tails (c.has_light_tail.ensures.none c.if-has_light_tail.false)))

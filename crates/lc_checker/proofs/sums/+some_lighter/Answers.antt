@@ -19,7 +19,7 @@ loop-c-init t c = record {
 
 pub loop-c-preserved : goal.loop-c-preserved
 loop-c-preserved t c =
-    let rows = c.args.rows.now in
+    let rows = c.args.multiples.now.rows.now in
     let d = c.args.distance in
     let p = c.loop-place.place in
     let a = slice_index_or c.loop-place.sums c.args.depth [] in
@@ -55,7 +55,7 @@ loop-c-preserved t c =
 
 pub loop-place-preserved : goal.loop-place-preserved
 loop-place-preserved t c =
-    let rows = c.args.rows.now in
+    let rows = c.args.multiples.now.rows.now in
     let d = c.args.distance in
     let p = c.loop-place.place in
     let a = slice_index_or c.args.sums.now c.args.depth [] in
@@ -71,4 +71,4 @@ loop-place-preserved t c =
     }
 
 pub returns-clause-heavy : goal.returns-clause-heavy
-returns-clause-heavy t c = λ _. c.loop-place.invariant.heavy (heavy_end c.args.distance c.args.rows.now (slice_index_or c.args.sums.now c.args.depth []) c.loop-place.place c.args.width (omega (arith, c.loop-place-test.false, c.rows-place-end.ensures.is)))
+returns-clause-heavy t c = λ _. c.loop-place.invariant.heavy (heavy_end c.args.distance c.args.multiples.now.rows.now (slice_index_or c.args.sums.now c.args.depth []) c.loop-place.place c.args.width (omega (arith, c.loop-place-test.false, c.rows-place-end.ensures.is)))

@@ -11,11 +11,11 @@ use Rattle.lc_checker.proofs.sums.some_lighter_word.Goals.{else-level-gt1-via-th
 use Rattle.lc_checker.proofs.sums.some_lighter_word.Goals as goal
 
 pub put_multiple-requires-clause-element : goal.put_multiple-requires-clause-element
-put_multiple-requires-clause-element c = (omega arith, one_inside c.args.rows.now.field)
+put_multiple-requires-clause-element c = (omega arith, one_inside c.args.multiples.now.rows.now.field)
 
 pub loop-place-preserved : goal.loop-place-preserved
 loop-place-preserved c =
-    let rows = c.args.rows.now in
+    let rows = c.args.multiples.now.rows.now in
     let d = c.args.distance in
     let p = c.loop-place.place in
     let made : slice_index_or c.put_multiple.new.sums 1 [] ≡ first_sum rows p = c.put_multiple.ensures.is ∙ ap (λ y. word_sum rows.field y (scale rows.field 1 (row_of rows.rows p))) c.loop-place.invariant.sums.zero in
@@ -45,4 +45,4 @@ loop-place-preserved c =
     ]
 
 pub returns-clause-none : goal.returns-clause-none
-returns-clause-none c = λ _. firsts_found c.args.distance c.args.level c.args.rows.now (λ p l. c.loop-place.invariant.done p (omega (arith, l, c.loop-place-test.false, c.rows-place-end.ensures.is)))
+returns-clause-none c = λ _. firsts_found c.args.distance c.args.level c.args.multiples.now.rows.now (λ p l. c.loop-place.invariant.done p (omega (arith, l, c.loop-place-test.false, c.rows-place-end.ensures.is)))

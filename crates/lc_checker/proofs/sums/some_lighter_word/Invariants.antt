@@ -7,6 +7,6 @@ use Rattle.lc_checker.proofs.sums.some_lighter_word.Given as goal
 
 abbrev pub invariant-loop-place : goal.invariant-loop-place
 invariant-loop-place l = record {
-  sums : AreSums l.rows l.sums;
-  done : (p : ℕ) → p < l.place → (is_lighter l.distance (first_sum l.rows p) ≡ false) × AreHeavy l.distance l.rows (first_sum l.rows p) (p + 1) (l.level - 1);
+  sums : AreSums l.multiples.rows.now l.sums;
+  done : (p : ℕ) → p < l.place → (is_lighter l.distance (first_sum l.multiples.rows.now p) ≡ false) × AreHeavy l.distance l.multiples.rows.now (first_sum l.multiples.rows.now p) (p + 1) (l.level - 1);
 }

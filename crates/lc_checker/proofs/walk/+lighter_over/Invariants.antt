@@ -4,12 +4,12 @@ use Rattle.lc_checker.specs.Walk.{AreSums, words_over}
 use Rattle.lc_checker.proofs.walk.+lighter_over.Given as goal
 
 abbrev pub decreases-lighter_over : goal.decreases-lighter_over
-decreases-lighter_over l = l.width - l.depth
+decreases-lighter_over l = l.walk.now.width - l.depth
 
 abbrev pub invariant-loop-place : goal.invariant-loop-place
 invariant-loop-place l = record {
-  sums : AreSums l.rows l.sums;
+  sums : AreSums l.walk.rows.now l.sums;
   long : length l.support ≡ length l.initial.support;
   front : take l.depth l.support ≡ take l.depth l.initial.support;
-  rest : find (is_lighter l.distance) (words_over l.rows.field l.rows.columns l.rows.rows (take l.depth l.initial.support) l.from (length l.rows.rows - l.from) (l.width - l.depth)) ≡ find (is_lighter l.distance) (words_over l.rows.field l.rows.columns l.rows.rows (take l.depth l.initial.support) l.place (length l.rows.rows - l.place) (l.width - l.depth));
+  rest : find (is_lighter l.walk.distance) (words_over l.walk.rows.now.field l.walk.rows.now.columns l.walk.rows.now.rows (take l.depth l.initial.support) l.from (length l.walk.rows.now.rows - l.from) (l.walk.width - l.depth)) ≡ find (is_lighter l.walk.distance) (words_over l.walk.rows.now.field l.walk.rows.now.columns l.walk.rows.now.rows (take l.depth l.initial.support) l.place (length l.walk.rows.now.rows - l.place) (l.walk.width - l.depth));
 }

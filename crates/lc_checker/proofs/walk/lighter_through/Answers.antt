@@ -4,8 +4,8 @@ use Rattle.lc_checker.specs.Walk.{words_from}
 use Rattle.lc_checker.proofs.WalkLaws.{level_found, level_passed, level_end}
 use Rattle.lc_checker.proofs.walk.lighter_through.Goals as goal
 
-pub loop-w-init : goal.loop-w-init
-loop-w-init c =
+pub loop-width-init : goal.loop-width-init
+loop-width-init c =
     let same : c.args.level ≡ c.args.level + 1 - 1 = omega arith in
     record {
       sums = c.requires.sums;
@@ -17,20 +17,20 @@ pub returns-then-lighter_on_level : goal.returns-then-lighter_on_level
 returns-then-lighter_on_level c =
     let rows = c.args.rows.now in
     record {
-      inside = omega (arith, c.loop-w-test.true);
-      some = level_found rows.field rows.columns rows.rows c.args.distance c.loop-w.w (c.args.level + 1 - c.loop-w.w) (c.args.level + 1 - (c.loop-w.w + 1)) (length rows.rows - 0) (c.loop-w.w - 0) _ _ _ _
-          (omega (arith, c.loop-w-test.true)) refl (omega arith) (omega arith) c.loop-w.invariant.rest c.lighter_on_level.ensures.is c.if-lighter_on_level.true;
+      inside = omega (arith, c.loop-width-test.true);
+      some = level_found rows.field rows.columns rows.rows c.args.distance c.loop-width.width (c.args.level + 1 - c.loop-width.width) (c.args.level + 1 - (c.loop-width.width + 1)) (length rows.rows - 0) (c.loop-width.width - 0) _ _ _ _
+          (omega (arith, c.loop-width-test.true)) refl (omega arith) (omega arith) c.loop-width.invariant.rest c.lighter_on_level.ensures.is c.if-lighter_on_level.true;
       none = tt;
     }
 
-pub loop-w-preserved : goal.loop-w-preserved
-loop-w-preserved c =
+pub loop-width-preserved : goal.loop-width-preserved
+loop-width-preserved c =
     let rows = c.args.rows.now in
     record {
       sums = c.lighter_on_level.ensures.sums;
-      long = c.lighter_on_level.ensures.long ∙ c.loop-w.invariant.long;
-      rest = level_passed rows.field rows.columns rows.rows c.args.distance c.loop-w.w (c.args.level + 1 - c.loop-w.w) (c.args.level + 1 - (c.loop-w.w + 1)) (length rows.rows - 0) (c.loop-w.w - 0) _ _ _ _
-          (omega (arith, c.loop-w-test.true)) refl (omega arith) (omega arith) c.loop-w.invariant.rest c.lighter_on_level.ensures.is c.if-lighter_on_level.false;
+      long = c.lighter_on_level.ensures.long ∙ c.loop-width.invariant.long;
+      rest = level_passed rows.field rows.columns rows.rows c.args.distance c.loop-width.width (c.args.level + 1 - c.loop-width.width) (c.args.level + 1 - (c.loop-width.width + 1)) (length rows.rows - 0) (c.loop-width.width - 0) _ _ _ _
+          (omega (arith, c.loop-width-test.true)) refl (omega arith) (omega arith) c.loop-width.invariant.rest c.lighter_on_level.ensures.is c.if-lighter_on_level.false;
     }
 
 pub returns : goal.returns
@@ -39,5 +39,5 @@ returns c =
     record {
       inside = tt;
       some = tt;
-      none = level_end rows.field rows.columns rows.rows c.args.distance c.loop-w.w (c.args.level + 1 - c.loop-w.w) _ (omega (arith, c.loop-w-test.false)) c.loop-w.invariant.rest;
+      none = level_end rows.field rows.columns rows.rows c.args.distance c.loop-width.width (c.args.level + 1 - c.loop-width.width) _ (omega (arith, c.loop-width-test.false)) c.loop-width.invariant.rest;
     }
