@@ -26,6 +26,13 @@ pub enum Filling {
     Ambiguous,
 }
 
+/// The symbols of a word at coordinates that aren't erased, and the columns of the generator matrix there.
+#[derive(Drop)]
+struct Known {
+    columns: Vec<Word>,
+    symbols: Vec<u8>,
+}
+
 /// The one codeword that agrees with a word at all coordinates but the erased ones, or that there is none, or that there are
 /// several (MacWilliams and Sloane, chapter 1, on erasures).
 ///
@@ -54,11 +61,13 @@ fn filled(alloc: Global, code: &Code, word: &[u8], erased: &[u64]) -> Result<Fil
     requires word { IsWord code.now.field code.now.columns word.now }
     ensures is { IfOk result (λ a. IsFilling code.now word.now erased.now (filling_of a)) }
 {
-    let mut columns = Vec::new(alloc);
-    let mut symbols = Vec::new(alloc);
-    push_known(alloc, code, word, erased, &mut columns, &mut symbols)?;
-    let system = Matrix::from_rows(alloc, code.field(), code.dimension(), &columns)?;
-    solved(alloc, code, word, erased, &system, &symbols)
+    let mut known = Known {
+        columns: Vec::new(alloc),
+        symbols: Vec::new(alloc),
+    };
+    push_known(alloc, code, word, erased, &mut known)?;
+    let system = Matrix::from_rows(alloc, code.field(), code.dimension(), &known.columns)?;
+    solved(alloc, code, word, erased, &system, &known.symbols)
 }
 
 // The same from the system of equations of the messages.
@@ -94,18 +103,17 @@ fn push_known(
     code: &Code,
     word: &[u8],
     erased: &[u64],
-    columns: &mut Vec<Word>,
-    symbols: &mut Vec<u8>,
+    known: &mut Known,
 ) -> Result<(), NoMemory>
     requires word { IsWord code.now.field code.now.columns word.now }
-    requires columns { columns.old.items ≡ [] }
-    requires symbols { symbols.old.items ≡ [] }
+    requires columns { known.old.columns.items ≡ [] }
+    requires symbols { known.old.symbols.items ≡ [] }
     ensures known { IfOk result
-        (λ _. IsSystem code.now word.now erased.now code.now.columns columns.new.items symbols.new.items) }
+        (λ _. IsSystem code.now word.now erased.now code.now.columns known.new.columns.items known.new.symbols.items) }
 {
     let _matrix = code.matrix();
     for c in 0..code.length() {
-        push_coordinate(alloc, code, word, erased, c, columns, symbols)?;
+        push_coordinate(alloc, code, word, erased, c, known)?;
     }
     Ok(())
 }
@@ -118,21 +126,20 @@ fn push_coordinate(
     word: &[u8],
     erased: &[u64],
     c: usize,
-    columns: &mut Vec<Word>,
-    symbols: &mut Vec<u8>,
+    known: &mut Known,
 ) -> Result<(), NoMemory>
     requires word { IsWord code.now.field code.now.columns word.now }
     requires inside { c < code.now.columns }
-    requires known { IsSystem code.now word.now erased.now c columns.old.items symbols.old.items }
+    requires known { IsSystem code.now word.now erased.now c known.old.columns.items known.old.symbols.items }
     ensures known { IfOk result
-        (λ _. IsSystem code.now word.now erased.now (c + 1) columns.new.items symbols.new.items) }
+        (λ _. IsSystem code.now word.now erased.now (c + 1) known.new.columns.items known.new.symbols.items) }
 {
     let _matrix = code.matrix();
     if is_erased(erased, c) {
         return Ok(());
     }
-    columns.push(column(alloc, code, c)?)?;
-    symbols.push(word[c])?;
+    known.columns.push(column(alloc, code, c)?)?;
+    known.symbols.push(word[c])?;
     Ok(())
 }
 
