@@ -1,7 +1,6 @@
 //! The program over its streams and the slots and watchers that are made for it.
 ghost use Rattle.std.specs.Prelude.{◌≡◌};
 ghost use Rattle.std.specs.Process.{exit_status};
-ghost use Rattle.lc_text.specs.Worlds.{outside_of};
 ghost use Rattle.codes.specs.declared.texts.TheConstants.{HELP, VERSION};
 ghost use Rattle.codes.specs.Program.{notes_of};
 ghost use Rattle.codes.specs.Run.{IsRun, ends_of};
