@@ -19,7 +19,7 @@ ghost use Rattle.lc_distances.specs.Least.{IsFirstLeast, AreCounted, ArePartCoun
 ghost use Rattle.lc_kernel.specs.Sums.{front_word, AreMultiples};
 
 use crate::block::Block;
-use crate::grid::{Grid, GridAt};
+use crate::grid::{Grid, GridAt, GridBlock};
 use crate::multiples::{RowMultiples, multiple_of, nonzero};
 use crate::part_counts::count_sweeps;
 use crate::runs::pair_index;
@@ -234,29 +234,29 @@ fn first_counted(block: &Block<'_>, set: usize, counts: &[u32]) -> (u32, usize)
 /// first message on, and the first word that has it: support by support if a support hasn't too many heads, and else run
 /// by run. There are at least as many counts as a block has words.
 pub(crate) fn least_words(
-    block: &Block<'_>,
-    grid: &Grid,
+    at: &GridBlock<'_>,
     spot: &mut Spot,
     fronts: &mut [[u64; 4]],
     places: &mut [usize],
     tops: &mut [[u64; 4]],
     counts: &mut [u32],
 ) -> (u32, usize)
-    requires set { spot.old.set < set_count block.now.sets.now }
-    requires at { IsSpotIn block.now 0 spot.old }
+    requires set { spot.old.set < set_count at.now.block.now.sets.now }
+    requires at { IsSpotIn at.now.block.now 0 spot.old }
     requires level { 3 ≤ length spot.old.support }
-    requires grid { IsGrid block.now.sets.now spot.old.set grid.now }
-    requires room { spot.old.room ≡ length block.now.sets.now.rows }
-    requires many { length fronts.old ≡ length block.now.sets.now.rows + 1 }
-    requires places { length places.old ≡ length block.now.sets.now.rows }
+    requires grid { IsGrid at.now.block.now.sets.now spot.old.set at.now.grid.now }
+    requires room { spot.old.room ≡ length at.now.block.now.sets.now.rows }
+    requires many { length fronts.old ≡ length at.now.block.now.sets.now.rows + 1 }
+    requires places { length places.old ≡ length at.now.block.now.sets.now.rows }
     requires tops { length tops.old ≡ 1024 }
     requires counts { length counts.old ≡ 4096 }
-    ensures is { IsFirstLeast (length (words_in block.now))
-        (λ i. weight (restrict (others block.now.sets.now spot.old.set)
-        (slice_index_or (words_in block.now) i []))) result.0 result.1 }
+    ensures is { IsFirstLeast (length (words_in at.now.block.now))
+        (λ i. weight (restrict (others at.now.block.now.sets.now spot.old.set)
+        (slice_index_or (words_in at.now.block.now) i []))) result.0 result.1 }
     ensures few { result.0 ≤ 255 }
     ensures room { spot.new.room ≡ spot.old.room }
 {
+    let GridBlock { block, grid } = *at;
     let set = spot.set();
     let level = spot.support().len();
     let len = block.plan.block_len(block.number) as usize;

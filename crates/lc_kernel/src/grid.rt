@@ -11,6 +11,7 @@ ghost use Rattle.lc_kernel.specs.Sums.{AreMultiples};
 ghost use Rattle.lc_kernel.specs.Grid.{tail_count, tail_word, tails_in, AreTails, ArePlanesOf};
 ghost use Rattle.lc_kernel.specs.Grids.{HasRoom, LacksRoom, IsGridPart, AreGridParts, IsGrid};
 
+use crate::block::Block;
 use crate::fronts::row_planes;
 use crate::multiples::{RowMultiples, multiple_of, nonzero};
 use crate::parts::pair_starts;
@@ -48,6 +49,13 @@ pub(crate) struct Grid {
 pub(crate) struct GridAt<'a> {
     pub(crate) grid: &'a Grid,
     pub(crate) part: usize,
+}
+
+/// A block and the table of its set.
+#[derive(Clone, Copy)]
+pub(crate) struct GridBlock<'a> {
+    pub(crate) block: &'a Block<'a>,
+    pub(crate) grid: &'a Grid,
 }
 
 // The negative of the sum of multiples of rows a and b: tail t.

@@ -15,7 +15,7 @@ ghost use Rattle.lc_kernel.specs.Sums.{front_word};
 
 use crate::block::Block;
 use crate::fronts::least_words;
-use crate::grid::Grid;
+use crate::grid::{Grid, GridBlock};
 use crate::multiples::nonzero;
 use crate::room::Room;
 use lc_enumeration::{BLOCK, PLACES};
@@ -75,8 +75,7 @@ pub(crate) fn by_tails(block: &Block<'_>, grid: &Grid, room: &mut Room) -> u64
 {
     let level = room.spot.support().len() as u64;
     let (least, at) = least_words(
-        block,
-        grid,
+        &GridBlock { block, grid },
         &mut room.spot,
         &mut room.fronts,
         &mut room.places,

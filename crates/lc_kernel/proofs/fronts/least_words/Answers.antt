@@ -13,8 +13,8 @@ use Rattle.lc_kernel.proofs.fronts.least_words.Goals.{After-block_len-len}
 use Rattle.lc_kernel.proofs.fronts.least_words.Goals as goal
 
 -- there is a count for each word of the block
-cut : (c : After-block_len-len) → length (take c.block_len-len.result c.args.counts.now) ≡ length (block_words c.args.block.now.sets.now c.args.block.now.plan.now.m c.args.block.now.number)
-cut c = counts_cut c.args.block.now.sets.now c.args.block.now.plan.now c.args.block.now.number c.block_len-len.result c.args.counts.now c.args.block.now.planned (phase_of_block c.args.block.now) c.block_len-len.ensures.exact c.block_len-len.ensures.few c.requires.counts
+cut : (c : After-block_len-len) → length (take c.block_len-len.result c.args.counts.now) ≡ length (block_words c.args.at.now.block.now.sets.now c.args.at.now.block.now.plan.now.m c.args.at.now.block.now.number)
+cut c = counts_cut c.args.at.now.block.now.sets.now c.args.at.now.block.now.plan.now c.args.at.now.block.now.number c.block_len-len.result c.args.counts.now c.args.at.now.block.now.planned (phase_of_block c.args.at.now.block.now) c.block_len-len.ensures.exact c.block_len-len.ensures.few c.requires.counts
 
 -- there is one
 some : (c : After-block_len-len) → 0 < length (take c.block_len-len.result c.args.counts.now)
@@ -22,7 +22,7 @@ some c = omega (arith, length-take-le c.block_len-len.result c.args.counts.now (
 
 -- the number of nonzero symbols, outside the basis of a set, of word i of the block
 abbrev outside : After-block_len-len → ℕ → ℕ → ℕ
-outside c j i = weight (restrict (others c.args.block.now.sets.now j) (slice_index_or (block_words c.args.block.now.sets.now c.args.block.now.plan.now.m c.args.block.now.number) i []))
+outside c j i = weight (restrict (others c.args.at.now.block.now.sets.now j) (slice_index_or (block_words c.args.at.now.block.now.sets.now c.args.at.now.block.now.plan.now.m c.args.at.now.block.now.number) i []))
 
 pub count_fronts-requires-clause-words : goal.count_fronts-requires-clause-words
 count_fronts-requires-clause-words c = cut (goal.at.count_fronts-requires-clause-words c).After-block_len-len
@@ -40,21 +40,21 @@ least_sweeps-requires-clause-words c = cut (goal.at.least_sweeps-requires-clause
 pub returns-then-len-eq1-clause-is : goal.returns-then-len-eq1-clause-is
 returns-then-len-eq1-clause-is c =
     let a = (goal.at.returns-then-len-eq1-clause-is c).After-block_len-len in
-    let C = c.args.block.now.sets.now in
+    let C = c.args.at.now.block.now.sets.now in
     let j = c.args.spot.now.set in
     let n = length (take c.block_len-len.result c.args.counts.now) in
     let r = c.least_sweeps.result in
-    let few : (i : ℕ) → outside a j i ≤ 255 = λ i. outside_few C j (slice_index_or (block_words C c.args.block.now.plan.now.m c.args.block.now.number) i []) (omega (arith, c.args.block.now.short)) in
+    let few : (i : ℕ) → outside a j i ≤ 255 = λ i. outside_few C j (slice_index_or (block_words C c.args.at.now.block.now.plan.now.m c.args.at.now.block.now.number) i []) (omega (arith, c.args.at.now.block.now.short)) in
     let first : IsFirstLeast n (outside a j) r.0 r.1 = below_whole n (outside a j) 256 r.0 r.1 (some a) (λ i l. omega (arith, few i)) c.least_sweeps.ensures.is in
     subst (λ n. IsFirstLeast n (outside a j) r.0 r.1) (cut a) first
 
 pub returns-then-len-eq1-clause-few : goal.returns-then-len-eq1-clause-few
 returns-then-len-eq1-clause-few c =
     let a = (goal.at.returns-then-len-eq1-clause-few c).After-block_len-len in
-    let C = c.args.block.now.sets.now in
+    let C = c.args.at.now.block.now.sets.now in
     let j = c.args.spot.now.set in
-    let w = slice_index_or (block_words C c.args.block.now.plan.now.m c.args.block.now.number) 0 [] in
-    omega (arith, c.least_sweeps.ensures.is.low 0 (some a), outside_few C j w (omega (arith, c.args.block.now.short)))
+    let w = slice_index_or (block_words C c.args.at.now.block.now.plan.now.m c.args.at.now.block.now.number) 0 [] in
+    omega (arith, c.least_sweeps.ensures.is.low 0 (some a), outside_few C j w (omega (arith, c.args.at.now.block.now.short)))
 
 pub count_sweeps-requires-clause-words : goal.count_sweeps-requires-clause-words
 count_sweeps-requires-clause-words c = cut (goal.at.count_sweeps-requires-clause-words c).After-block_len-len
