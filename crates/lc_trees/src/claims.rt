@@ -8,7 +8,7 @@ ghost use Rattle.lc_certificate.specs.Trees.{pair_of, place_of, claim_of};
 ghost use Rattle.lc_trees.specs.Outcome.{IsOutcomeOf};
 
 use crate::kinds::{combined, lengthened, nested, placed, spanned};
-use crate::leaves::{formed, searched};
+use crate::leaves::{StatedForm, formed, searched};
 use crate::outcome::{Made, Stop, total};
 use lc_certificate::{Claim, PairKind, PlaceKind};
 use lc_field::Field;
@@ -31,15 +31,15 @@ pub(crate) fn made(alloc: Global, field: &Field, claim: &Claim, number: u64) -> 
             points,
             multipliers,
             r,
-        } => formed(
-            alloc,
-            field,
-            *locator,
-            points.symbols(),
-            multipliers.symbols(),
-            *r,
-            number,
-        ),
+        } => {
+            let form = StatedForm {
+                locator: *locator,
+                points: points.symbols(),
+                multipliers: multipliers.symbols(),
+                r: *r,
+            };
+            formed(alloc, field, &form, number)
+        }
         Claim::Pair(kind, left, right) => pair(alloc, field, *kind, left, right, number),
         Claim::Concat {
             large,

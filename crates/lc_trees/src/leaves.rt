@@ -15,6 +15,15 @@ use lc_field::{Field, FieldRefusal};
 use lc_goppa::subfield_subcode;
 use std::alloc::Global;
 
+/// An alternant form that a claim states: the number of elements of its locator field, its points and multipliers, and r.
+#[derive(Clone, Copy)]
+pub(crate) struct StatedForm<'a> {
+    pub(crate) locator: u64,
+    pub(crate) points: &'a [u8],
+    pub(crate) multipliers: &'a [u8],
+    pub(crate) r: u64,
+}
+
 // What comes of a search: the span of its rows if the certificate is accepted, else the number of the reason.
 pub(crate) fn searched(
     alloc: Global,
@@ -39,14 +48,18 @@ pub(crate) fn searched(
 pub(crate) fn formed(
     alloc: Global,
     field: &Field,
-    locator: u64,
-    points: &[u8],
-    multipliers: &[u8],
-    r: u64,
+    form: &StatedForm<'_>,
     number: u64,
 ) -> Result<Made, Stop>
-    ensures is { IsOutcomeOf result (HasOutcome field.now number (alternant locator points.now multipliers.now r)) }
+    ensures is { IsOutcomeOf result (HasOutcome field.now number
+        (alternant form.now.locator form.now.points.now form.now.multipliers.now form.now.r)) }
 {
+    let StatedForm {
+        locator,
+        points,
+        multipliers,
+        r,
+    } = *form;
     match Field::of(alloc, locator) {
         Ok(large) => {
             let code = subfield_subcode(alloc, r, points, multipliers, &large, field);
