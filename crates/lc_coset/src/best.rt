@@ -9,7 +9,7 @@ ghost use Rattle.lc_coset.specs.Phase.{IsFrame, IsPhaseOf, IsPlaceOf, IsBestAt};
 
 use crate::blocks::{CosetPhase, PhaseBlocks};
 use crate::frame::Frame;
-use crate::walk::{Room, go_to, top};
+use crate::walk::{Room, Walk, go_to, top};
 use lc_enumeration::PLACES;
 use lc_field::NoMemory;
 use lc_infoset::Sets;
@@ -96,8 +96,13 @@ fn put_word(frame: &Frame, phase: CosetPhase, place: u64, best: &mut Best, room:
         return;
     }
     let (sets, plan, left) = (&frame.sets, &frame.plan, &frame.lefts[phase.set]);
+    let walk = Walk {
+        sets,
+        set: phase.set,
+        left,
+    };
     let rank = place - phase.first * 4096;
-    go_to(sets, plan, left, phase.set, phase.level, rank, room);
+    go_to(&walk, plan, phase.level, rank, room);
     let field = sets.field();
     let rest = top(room, phase.level).symbols();
     best.word

@@ -9,7 +9,7 @@ ghost use Rattle.lc_coset.specs.Phase.{IsFrame, IsPhaseOf, IsFitting};
 
 use crate::frame::Frame;
 use crate::led::{Led, has_block, least_led};
-use crate::walk::{Room, go_to, step, value_here};
+use crate::walk::{Room, Walk, go_to, step, value_here};
 use lc_crew::{Blocks, NoMemory as CrewNoMemory};
 use lc_field::NoMemory;
 use lc_kernel::Scratch;
@@ -123,13 +123,18 @@ pub(crate) fn least_of(frame: &Frame, phase: CosetPhase, block: u64, room: &mut 
         ≡ Some result }
 {
     let (sets, plan, left) = (&frame.sets, &frame.plan, &frame.lefts[phase.set]);
+    let walk = Walk {
+        sets,
+        set: phase.set,
+        left,
+    };
     let rank = block * 4096;
     let place = (phase.first + block) * 4096;
-    go_to(sets, plan, left, phase.set, phase.level, rank, room);
+    go_to(&walk, plan, phase.level, rank, room);
     let mut least = value_here(room, phase.level, place);
     for offset in 1..(phase.patterns - rank).min(4096) {
         let before = rank + (offset - 1);
-        step(sets, plan, left, phase.set, phase.level, before, room);
+        step(&walk, plan, phase.level, before, room);
         least = least.min(value_here(room, phase.level, place + offset));
     }
     least

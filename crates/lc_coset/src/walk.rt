@@ -41,18 +41,28 @@ impl Room {
     }
 }
 
-// Row i of a walk over a set: what the first word of the set leaves, and then the rows of the set's generator matrix.
-fn row_of<'a>(sets: &'a Sets, left: &'a Word, set: usize, i: usize) -> &'a [u8]
-    requires set { set < set_count sets.now }
-    requires left { IsWord sets.now.field sets.now.columns left.now }
-    requires row { i < length sets.now.rows + 1 }
-    ensures is { result.now ≡ slice_index_or (left.now ∷ generator_at sets.now set) i [] }
-    ensures word { IsWord sets.now.field sets.now.columns result.now }
+/// A walk over a set: the information sets of a code, the index of the set, and what the first word of the set leaves of the
+/// given word.
+#[derive(Clone, Copy)]
+pub(crate) struct Walk<'a> {
+    pub(crate) sets: &'a Sets,
+    pub(crate) set: usize,
+    pub(crate) left: &'a Word,
+}
+
+// Row i of a walk: what the first word of the set leaves, and then the rows of the set's generator matrix.
+fn row_of<'a>(walk: &Walk<'a>, i: usize) -> &'a [u8]
+    requires set { walk.now.set < set_count walk.now.sets.now }
+    requires left { IsWord walk.now.sets.now.field walk.now.sets.now.columns walk.now.left.now }
+    requires row { i < length walk.now.sets.now.rows + 1 }
+    ensures is { result.now
+        ≡ slice_index_or (walk.now.left.now ∷ generator_at walk.now.sets.now walk.now.set) i [] }
+    ensures word { IsWord walk.now.sets.now.field walk.now.sets.now.columns result.now }
 {
     if i == 0 {
-        return left.symbols();
+        return walk.left.symbols();
     }
-    sets.row(set, i - 1)
+    walk.sets.row(walk.set, i - 1)
 }
 
 // Makes `to` the sum of a word and of c times a row.
@@ -73,108 +83,78 @@ fn put_multiple(field: &Field, to: &mut Word, word: &[u8], row: &[u8], c: u8)
 }
 
 // Makes the sum of entry i from the one before it.
-fn extend(sets: &Sets, left: &Word, j: usize, spot: &Spot, sums: &mut [Word], i: usize)
-    requires set { j < set_count sets.now }
-    requires left { IsWord sets.now.field sets.now.columns left.now }
+fn extend(walk: &Walk<'_>, spot: &Spot, sums: &mut [Word], i: usize)
+    requires set { walk.now.set < set_count walk.now.sets.now }
+    requires left { IsWord walk.now.sets.now.field walk.now.sets.now.columns walk.now.left.now }
     requires entry { i < length spot.now.support }
     requires entries { length spot.now.coefficients ≡ length spot.now.support }
-    requires row { slice_index spot.now.support i < length sets.now.rows + 1 }
-    requires element { slice_index spot.now.coefficients i < size sets.now.field }
+    requires row { slice_index spot.now.support i < length walk.now.sets.now.rows + 1 }
+    requires element { slice_index spot.now.coefficients i < size walk.now.sets.now.field }
     requires many { i + 1 < length sums.old }
-    requires word { IsWord sets.now.field sets.now.columns (slice_index_or sums.old i []) }
-    requires long { length (slice_index_or sums.old (i + 1) []) ≡ sets.now.columns }
+    requires word { IsWord walk.now.sets.now.field walk.now.sets.now.columns (slice_index_or sums.old i []) }
+    requires long { length (slice_index_or sums.old (i + 1) []) ≡ walk.now.sets.now.columns }
     ensures is { sums.new ≡ set sums.old (i + 1)
-        (word_sum sets.now.field (slice_index_or sums.old i [])
-        (scale sets.now.field (slice_index spot.now.coefficients i)
-        (slice_index_or (left.now ∷ generator_at sets.now j) (slice_index spot.now.support i) []))) }
+        (word_sum walk.now.sets.now.field (slice_index_or sums.old i [])
+        (scale walk.now.sets.now.field (slice_index spot.now.coefficients i)
+        (slice_index_or (walk.now.left.now ∷ generator_at walk.now.sets.now walk.now.set)
+        (slice_index spot.now.support i) []))) }
 {
-    let row = row_of(sets, left, j, spot.support()[i]);
+    let row = row_of(walk, spot.support()[i]);
     let c = spot.coefficients()[i];
     let (before, rest) = sums.split_at_mut(i + 1);
-    put_multiple(sets.field(), &mut rest[0], before[i].symbols(), row, c);
+    put_multiple(walk.sets.field(), &mut rest[0], before[i].symbols(), row, c);
 }
 
 // Makes the sums of the entries from `from` on again, up to all `to`, those of the first `from` being there.
-fn refresh(
-    sets: &Sets,
-    left: &Word,
-    set: usize,
-    spot: &Spot,
-    sums: &mut [Word],
-    from: usize,
-    to: usize,
-)
-    requires set { set < set_count sets.now }
-    requires left { IsWord sets.now.field sets.now.columns left.now }
-    requires message { Contains (messages (suc (length sets.now.rows)) (size sets.now.field) (length spot.now.support))
+fn refresh(walk: &Walk<'_>, spot: &Spot, sums: &mut [Word], from: usize, to: usize)
+    requires set { walk.now.set < set_count walk.now.sets.now }
+    requires left { IsWord walk.now.sets.now.field walk.now.sets.now.columns walk.now.left.now }
+    requires message { Contains
+        (messages (suc (length walk.now.sets.now.rows)) (size walk.now.sets.now.field) (length spot.now.support))
         (spot_message spot.now) }
-    requires walk { IsWalk (walk_matrix sets.now left.now set) spot.now from sums.old }
+    requires walk { IsWalk (walk_matrix walk.now.sets.now walk.now.left.now walk.now.set) spot.now from sums.old }
     requires order { from ≤ to }
     requires inside { to ≤ length spot.now.support }
-    ensures walk { IsWalk (walk_matrix sets.now left.now set) spot.now to sums.new }
+    ensures walk { IsWalk (walk_matrix walk.now.sets.now walk.now.left.now walk.now.set) spot.now to sums.new }
 {
-    let _k = sets.dimension();
+    let _k = walk.sets.dimension();
     for i in from..to {
-        extend(sets, left, set, spot, sums, i);
+        extend(walk, spot, sums, i);
     }
 }
 
-/// Puts a room at the pattern of a level whose number is `rank`, over a set of which the first word leaves `left`.
-pub(crate) fn go_to(
-    sets: &Sets,
-    plan: &Plan,
-    left: &Word,
-    set: usize,
-    level: usize,
-    rank: u64,
-    room: &mut Room,
-)
-    requires plan { plan.now ≡ walk_plan sets.now }
-    requires set { set < set_count sets.now }
-    requires left { IsWord sets.now.field sets.now.columns left.now }
-    requires level { level ≤ length sets.now.rows }
+/// Puts a room at the pattern of a level whose number is `rank`, in a walk.
+pub(crate) fn go_to(walk: &Walk<'_>, plan: &Plan, level: usize, rank: u64, room: &mut Room)
+    requires plan { plan.now ≡ walk_plan walk.now.sets.now }
+    requires set { walk.now.set < set_count walk.now.sets.now }
+    requires left { IsWord walk.now.sets.now.field walk.now.sets.now.columns walk.now.left.now }
+    requires level { level ≤ length walk.now.sets.now.rows }
     requires small { rank < 2 ^ 52 }
-    requires inside { rank < pattern_count (length sets.now.rows) (size sets.now.field) level }
-    requires room { IsRoomOf sets.now room.old }
-    ensures at { IsAtRank sets.now left.now set level rank room.new }
+    requires inside { rank < pattern_count (length walk.now.sets.now.rows) (size walk.now.sets.now.field) level }
+    requires room { IsRoomOf walk.now.sets.now room.old }
+    ensures at { IsAtRank walk.now.sets.now walk.now.left.now walk.now.set level rank room.new }
 {
-    let _k = sets.dimension();
-    plan.go_to(set, level + 1, rank, &mut room.spot);
-    refresh(sets, left, set, &room.spot, &mut room.sums, 0, level + 1);
+    let _k = walk.sets.dimension();
+    plan.go_to(walk.set, level + 1, rank, &mut room.spot);
+    refresh(walk, &room.spot, &mut room.sums, 0, level + 1);
 }
 
-/// Goes from a pattern of a level to the next one.
-pub(crate) fn step(
-    sets: &Sets,
-    plan: &Plan,
-    left: &Word,
-    set: usize,
-    level: usize,
-    rank: u64,
-    room: &mut Room,
-)
-    requires plan { plan.now ≡ walk_plan sets.now }
-    requires set { set < set_count sets.now }
-    requires left { IsWord sets.now.field sets.now.columns left.now }
-    requires level { level ≤ length sets.now.rows }
-    requires inside { rank + 1 < pattern_count (length sets.now.rows) (size sets.now.field) level }
-    requires at { IsAtRank sets.now left.now set level rank room.old }
-    ensures at { IsAtRank sets.now left.now set level (rank + 1) room.new }
+/// Goes from a pattern of a level to the next one, in a walk.
+pub(crate) fn step(walk: &Walk<'_>, plan: &Plan, level: usize, rank: u64, room: &mut Room)
+    requires plan { plan.now ≡ walk_plan walk.now.sets.now }
+    requires set { walk.now.set < set_count walk.now.sets.now }
+    requires left { IsWord walk.now.sets.now.field walk.now.sets.now.columns walk.now.left.now }
+    requires level { level ≤ length walk.now.sets.now.rows }
+    requires inside { rank + 1 < pattern_count (length walk.now.sets.now.rows) (size walk.now.sets.now.field) level }
+    requires at { IsAtRank walk.now.sets.now walk.now.left.now walk.now.set level rank room.old }
+    ensures at { IsAtRank walk.now.sets.now walk.now.left.now walk.now.set level (rank + 1) room.new }
 {
-    let _k = sets.dimension();
-    let _n = sets.length();
+    let _k = walk.sets.dimension();
+    let _n = walk.sets.length();
     let Some(first) = plan.step(&mut room.spot) else {
         unreachable!()
     };
-    refresh(
-        sets,
-        left,
-        set,
-        &room.spot,
-        &mut room.sums,
-        first,
-        level + 1,
-    );
+    refresh(walk, &room.spot, &mut room.sums, first, level + 1);
 }
 
 /// What the word of the pattern leaves of the given word.
