@@ -5,10 +5,9 @@
 --   Affects e P                  e is what a statement does, of which P holds
 --   AffectsOrFails r P           r is what a statement does, or its fault, of which P holds, unless memory ran out
 --   IsQueryAt e row c es         the expression is the query c of these arguments, and the row is that of c
---   IsQueryOf e o                o is the row, the call and the arguments of the expression, if it is a query of the table
+--   IsQueryOf e o                o is what the expression asks, with its row and its arguments, if it is a query of the table
 use Rattle.std.specs.Prelude.{◌≡◌, ℕ, List, Option, Some, None, Result, Ok, Err}
 use Rattle.std.specs.Global.{Vec}
-use Rattle.std.specs.Borrow.{Bor}
 use Rattle.lc_grammar.specs.Tree as tree
 use Rattle.lc_parse.specs.declared.tree.Expr.{Expr}
 use Rattle.lc_parse.specs.Views.{tree_of, trees_of}
@@ -27,6 +26,7 @@ use Rattle.lc_eval.specs.declared.machine.QueryKind.TheVariants.{Distance, Level
 use Rattle.lc_calls.specs.declared.values.Value.{Value}
 use Rattle.lc_calls.specs.declared.refusals.Stop.{Stop}
 use Rattle.lc_calls.specs.declared.refusals.Stop.TheVariants as stop
+use Rattle.lc_eval.specs.declared.statement.Asked.{Asked}
 use Rattle.lc_eval.specs.declared.statement.Effect.{Effect}
 use Rattle.lc_eval.specs.declared.statement.Effect.TheVariants as effect
 
@@ -62,6 +62,6 @@ pub record IsQueryAt (e : Expr) (row : Row) (c : QueryCall) (es : List Expr) : T
   pub name : List ℕ
   pub seen : tree_of e ≡ tree.call e.offset name (trees_of es)
 
-abbrev pub IsQueryOf : Expr → Option (Bor Row × QueryCall × Bor (List Expr)) → Type 0
+abbrev pub IsQueryOf : Expr → Option Asked → Type 0
 IsQueryOf e None = query_of built_calls (tree_of e) ≡ None
-IsQueryOf e (Some (row, c, es)) = IsQueryAt e row.now c es.now
+IsQueryOf e (Some q) = IsQueryAt e q.row.now q.call q.arguments.now

@@ -8,7 +8,7 @@ use crate::cyclic::{
     qr_code,
 };
 use crate::decoding::{decode, is_codeword};
-use crate::forms::{alternant_code, formed, goppa_code};
+use crate::forms::{AskedForm, alternant_code, formed, goppa_code};
 use crate::made::{check_mat_code, code_value, generator_mat_code, gf, made, nonzero, rows_value};
 use crate::relations::{
     add_words, augmented_code, distance_codeword, encode, information_word, is_same_code,
@@ -59,7 +59,13 @@ pub(crate) fn apply(
             goppa_code(alloc, offset, list, points, locator, field)
         }
         BoundCall::AlternantCode(r, points, multipliers, locator, field) => {
-            alternant_code(alloc, offset, r, points, multipliers, locator, field)
+            let form = AskedForm {
+                r,
+                points,
+                multipliers,
+                locator,
+            };
+            alternant_code(alloc, offset, &form, field)
         }
         BoundCall::DualCode(code) => Ok(code_value(alloc, code.dual(alloc)?)?),
         BoundCall::ExtendedCode(code) => made(alloc, offset, lc_combine::extended(alloc, code)),

@@ -14,6 +14,15 @@ use lc_field::Field;
 use std::alloc::Global;
 use std::rc::Rc;
 
+/// An alternant form that is asked for: r, its points and multipliers as numbers, and its locator field.
+#[derive(Clone, Copy)]
+pub(crate) struct AskedForm<'a> {
+    pub(crate) r: u64,
+    pub(crate) points: &'a [u64],
+    pub(crate) multipliers: &'a [u64],
+    pub(crate) locator: &'a Field,
+}
+
 /// A code with its alternant form, or its refusal at this offset.
 pub(crate) fn formed(
     alloc: Global,
@@ -55,20 +64,24 @@ pub(crate) fn goppa_code(
     formed(alloc, offset, code)
 }
 
-/// The alternant code of points and multipliers of a locator field, with its form.
+/// The code of an alternant form, with its form.
 #[tactic(auto, using(crate::proofs::FormLaws::alternant_wide))]
 pub(crate) fn alternant_code(
     alloc: Global,
     offset: usize,
-    r: u64,
-    points: &[u64],
-    multipliers: &[u64],
-    locator: &Field,
+    form: &AskedForm<'_>,
     field: &Field,
 ) -> Result<Value, Stop>
     ensures { Answers result
-        (AppliesTo offset (bound.alternant_code r points.now multipliers.now locator.now field.now)) }
+        (AppliesTo offset (bound.alternant_code form.now.r form.now.points.now form.now.multipliers.now
+        form.now.locator.now field.now)) }
 {
+    let AskedForm {
+        r,
+        points,
+        multipliers,
+        locator,
+    } = *form;
     if is_wide(points) || is_wide(multipliers) {
         let refusal = refuse_alternant(field, locator, r, points, multipliers);
         return Err(refused_as(alloc, offset, refusal));

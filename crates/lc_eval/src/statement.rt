@@ -38,6 +38,14 @@ pub(crate) enum Effect {
     Fails(Vec<u8>),
 }
 
+/// A query that an expression asks: its row of the table, its call, and its arguments.
+#[derive(Clone, Copy)]
+pub(crate) struct Asked<'a> {
+    pub(crate) row: &'static Row,
+    pub(crate) call: QueryCall,
+    pub(crate) arguments: &'a [Expr],
+}
+
 /// What a statement does.
 pub(crate) fn effect_of(
     alloc: Global,
@@ -81,9 +89,7 @@ fn alone(alloc: Global, names: &Names, stock: &mut Stock, expr: &Expr) -> Result
     ensures { AffectsOrFails result (StepsOf built_calls names.now None (tree_of expr.now)) }
 {
     match query_of(expr) {
-        Some((row, call, arguments)) => {
-            ask(alloc, names, stock, row, call, expr.offset, arguments)
-        }
+        Some(asked) => ask(alloc, names, stock, expr.offset, &asked),
         None => {
             let value = evaluate(alloc, names, stock, expr)?;
             Ok(Effect::Prints(value_line(alloc, &value)?))
@@ -91,8 +97,8 @@ fn alone(alloc: Global, names: &Names, stock: &mut Stock, expr: &Expr) -> Result
     }
 }
 
-// The query that an expression is, its row of the table, and its arguments.
-fn query_of(expr: &Expr) -> Option<(&'static Row, QueryCall, &[Expr])>
+// The query that an expression asks.
+fn query_of(expr: &Expr) -> Option<Asked<'_>>
     ensures { IsQueryOf expr.now result }
 {
     let Node::Call(name, arguments) = &expr.node else {
@@ -100,25 +106,33 @@ fn query_of(expr: &Expr) -> Option<(&'static Row, QueryCall, &[Expr])>
     };
     let row = row_named(name.as_str())?;
     match row.call {
-        Call::Query(call) => Some((row, call, arguments.as_slice())),
+        Call::Query(call) => Some(Asked {
+            row,
+            call,
+            arguments: arguments.as_slice(),
+        }),
         Call::Value(_) => None,
     }
 }
 
-// What a query of these arguments does.
+// What a query at this offset does.
 fn ask(
     alloc: Global,
     names: &Names,
     stock: &mut Stock,
-    row: &'static Row,
-    call: QueryCall,
     offset: usize,
-    arguments: &[Expr],
+    asked: &Asked<'_>,
 ) -> Result<Effect, Stop>
-    requires row { IsAsked row.now call }
+    requires row { IsAsked asked.now.row.now asked.now.call }
     ensures { (x : List ℕ) → AffectsOrFails result
-        (StepsAsQuery built_calls names.now (query_call_of call) (tree.call offset x (trees_of arguments.now))) }
+        (StepsAsQuery built_calls names.now (query_call_of asked.now.call)
+        (tree.call offset x (trees_of asked.now.arguments.now))) }
 {
+    let Asked {
+        row,
+        call,
+        arguments,
+    } = *asked;
     let Some(kinds) = row.kinds(arguments.len()) else {
         return Err(Stop::Refused(fault(alloc, WRONG_COUNT, offset)));
     };

@@ -15,4 +15,4 @@ returns-in_ok-value_line-in-None c = alone_given c.args.names.now (tree_of c.arg
 pub returns-in-Some : goal.returns-in-Some
 returns-in-Some c =
     let q = c.in-Some.ensures in
-    query_alone c.args.names.now (tree_of c.args.expr.now) (query_call_of c.in-Some.call) c.args.expr.now.offset q.name (trees_of c.in-Some.arguments.now) c.ask.result q.found q.seen (c.ask.ensures q.name)
+    query_alone c.args.names.now (tree_of c.args.expr.now) (query_call_of c.in-Some.asked.call) c.args.expr.now.offset q.name (trees_of c.in-Some.asked.arguments.now) c.ask.result q.found q.seen (c.ask.ensures q.name)
