@@ -32,8 +32,8 @@ pub fn check(alloc: Global, cert: &Certificate) -> Result<Verdict, NoMemory>
     Ok(verdict)
 }
 
-/// The cost of a check of the certificate: by levels the number of words that `check` looks at before it accepts, by scan q^k for
-/// dimension k over q elements; 2^64 - 1 if it is more.
+/// The cost of a check of the certificate: by levels the number of messages of all levels of all sets, by scan q^k for dimension k
+/// over q elements; 2^64 - 1 if it is more.
 ///
 /// The certificate has the shape, as one that was read has.
 pub fn checking_cost(alloc: Global, cert: &Certificate) -> Result<u64, NoMemory>

@@ -18,7 +18,7 @@ use lc_matrix::Matrix;
 use lc_vec::weight;
 use std::alloc::Global;
 
-/// The most words that the checker looks at.
+/// The greatest cost of a certificate that is checked.
 pub const MOST_WORDS: u64 = 4_294_967_296;
 
 // The first reason that has to do with the cost and the word.

@@ -42,7 +42,7 @@ pub struct Near {
 /// A word of a code that is nearest to the word `x`, or if the budget is used up before that is known, the nearest one that was
 /// found, with a lower bound on the least distance. The answer is the same for any number of workers.
 ///
-/// The code has dimension at least 1, and `x` has its length and is over its field. `budget` is a number of blocks of 4,096
+/// The code has dimension at least 1, and `x` has its length and is over its field. `budget` is a number of blocks of at most 4,096
 /// words, at most 2^40; m q^k blocks, for m information sets of a code of dimension k over q elements, are enough for an exact
 /// answer. There are 1 to 256 workers; one worker starts no thread. Refused only if no memory is left. (Grassl, Searching for
 /// linear codes with large minimum distance, for the information sets and their bound.)

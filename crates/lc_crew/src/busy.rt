@@ -8,8 +8,8 @@ const WORTH_A_THREAD: u64 = 64;
 const ALWAYS: u64 = 4;
 
 /// How many of the workers a round of so many blocks keeps busy: all, but no more than there are blocks, and above four no more
-/// than one for each 64 blocks. So more workers never make a round slower: where there is nothing to do for them, no thread is
-/// started. There are 1 to 256 workers and at least one block.
+/// than one for each 64 blocks. So no thread is started that would have next to nothing to do. There are 1 to 256 workers and at
+/// least one block.
 pub(crate) fn hands(workers: u32, blocks: u64) -> u32
     requires workers { (1 ≤ workers) × (workers ≤ 256) }
     requires some { 1 ≤ blocks }

@@ -4,7 +4,7 @@
 --   greedy f n vector taken order  the indices of the order, one after another, whose vector is no sum of multiples of the
 --                                  vectors taken before
 --   dimension f n rows             how many rows are no sum of multiples of the rows before them
---   first_basis f rows order       the greedy first basis of the columns in that order, rising
+--   first_basis f n rows order     the greedy first basis of the columns in that order, rising
 --   InformationSet                 a basis of columns, and those of it that no earlier set brought first: the fresh ones
 --   next_set f n rows used         the set after those whose fresh columns are used: unused columns first, then used ones
 --   information_sets f n rows      the first set, and each next one as long as its fresh columns are at least half of k

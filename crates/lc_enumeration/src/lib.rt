@@ -1,7 +1,7 @@
 //! What `codes` means by the messages of a weight, the plan by which a search looks at the words of a
-//! code, the information sets that it uses, the lower bound that it states, and its answer; and by a
-//! certificate that a second program can check. The definitions are in `specs/`, and their laws are the
-//! contracts of the functions of `laws`.
+//! code, the information sets that it uses, the lower bound that it states, its answer and its rounds; and by
+//! weight distributions and the search for a nearest word. The definitions are in `specs/`, and their laws are
+//! the contracts of the functions of `laws`.
 #![tactic(auto)]
 
 pub mod laws;

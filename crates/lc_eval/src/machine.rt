@@ -91,8 +91,8 @@ impl Machine {
     }
 
     /// Does one statement: evaluates its expression, and binds the value to the statement's name or answers the line that it
-    /// prints, or the query or the code whose line it prints. After a fault, every further step answers `End`. If no memory is left the
-    /// machine is as before; with no statement left that never happens.
+    /// prints, or the query, the code, or the code and the word whose line it prints. After a fault, every further step answers
+    /// `End`. If no memory is left the machine is as before; with no statement left that never happens.
     pub fn step(&mut self, alloc: Global) -> Result<Step, NoMemory>
         ensures does { IfOk result (λ step. Does self.old step self.new) }
         ensures kept { IfErr result (λ _. self.new ≡ self.old) }

@@ -135,7 +135,7 @@ fn push_pivot(
     Ok(())
 }
 
-// The first index at which c is one of the columns.
+// An index at which c is one of the columns. They differ, so it is the only one.
 #[tactic(auto, using(crate::proofs::NextLaws::member_at, crate::proofs::NextLaws::not_member))]
 fn place_of(columns: &[usize], c: usize) -> Option<usize>
     ensures inside { IfSome result (λ r. r < length columns.now) }

@@ -46,7 +46,8 @@ pub trait Folder {
         ensures missing { IfErr result (λ error. error_kind error ≡ ErrorKind.NotFound
             → Known (files self.now) (λ contents. contents name.now ≡ None)) };
 
-    /// Removes what has this name, and changes no other file.
+    /// Removes what has this name, and changes no other file. (That it is gone then is no clause: whoever makes a file of this
+    /// name next learns it.)
     fn remove(&mut self, name: &str) -> io::Result<()>
         ensures { WhereTold (files self.old) (files self.new) (IsTouched name.now) };
 

@@ -44,7 +44,8 @@ impl NewFile for MemoryFile {
 }
 
 /// A folder that has its files in memory and tells what they hold. Removing, making, keeping and renaming a file fail at the calls
-/// that it was made to fail at, if there is no such file, or, making one, if there is one, and for want of memory.
+/// that it was made to fail at, and for want of memory; removing and renaming also if there is no such file, and making if there is
+/// one.
 #[derive(Drop)]
 pub struct MemoryFolder {
     alloc: Global,

@@ -10,8 +10,8 @@ pub struct Record {
     pub query: u64,
     /// How many of its blocks are done.
     pub blocks: u64,
-    /// Each nonzero codeword of which no multiple was seen in these blocks has at least this weight.
-    /// The lesser of this and `best` is a lower bound on the minimum distance.
+    /// Each nonzero codeword of which no multiple was seen in these blocks has at least this weight. In a search that started
+    /// afresh, or from a true record, the lesser of this and `best` is a lower bound on the minimum distance.
     pub bound: u64,
     /// The weight of the best word so far.
     pub best: u64,
@@ -42,8 +42,8 @@ pub trait Watcher: Drop {
     /// How often it has answered Pause.
     ghost pauses: { Self → ℕ };
 
-    /// Hears a record. Returns the next advice of those to come, and takes it away; if none is
-    /// left, that is Leave.
+    /// Hears a record. A watcher that discloses the advice to come returns the next of it, and takes it away; if none is left,
+    /// that is Leave.
     fn told(&mut self, note: &Record) -> Advice
         ensures coming { AnswersFrom (coming self.old) result (coming self.new) }
         ensures heard { HearsUnlessLeft (heard self.old) note.now result (heard self.new) }

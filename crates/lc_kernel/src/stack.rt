@@ -54,7 +54,7 @@ impl Model for Stack {
 
 impl Stack {
     /// A stack for messages of these sets, which is at no message yet. It keeps the nonzero multiples of all rows: at most 508
-    /// rows, those of two sets for length 255 and dimension 254, with 15 multiples of 128 bytes over 16 elements, 975,360 bytes.
+    /// rows, those of 254 sets for length 255 and dimension 2, with 15 multiples of 128 bytes over 16 elements, 975,360 bytes.
     pub fn new(alloc: Global, sets: &Sets) -> Result<Stack, NoMemory>
         ensures code { IfOk result (λ s. s.code ≡ sets.now) }
         ensures none { IfOk result (λ s. s.sums ≡ []) }

@@ -8,8 +8,9 @@ use crate::order::move_to_end;
 use std::alloc::Global;
 use std::marker::Model;
 
-/// A set and a message: the places of the support, counted from 0 and rising, and as many coefficients,
-/// from 1 to q - 1, the first one 1. Its room is made once: a bound on the number of places that it can hold.
+/// A set and a message: the places of the support and the coefficients there. Of a message that a plan has come to, the places,
+/// counted from 0, rise, and there are as many coefficients, from 1 to q - 1, the first one 1; a spot by itself holds any. Its
+/// room is made once: a bound on the number of places that it can hold.
 #[derive(Drop)]
 pub struct Spot {
     pub(crate) set: usize,
@@ -80,7 +81,7 @@ impl Spot {
         self.set
     }
 
-    /// The places of the message that aren't zero, counted from 0 and rising. There are at most as many as the
+    /// The places of the message that aren't zero, counted from 0, which a plan leaves rising. There are at most as many as the
     /// room.
     pub fn support(&self) -> &[usize]
         ensures places { result.now ≡ self.now.support }
@@ -89,7 +90,7 @@ impl Spot {
         self.support.as_slice()
     }
 
-    /// The entries of the message at these places, each below the size of the field. There are at most as many
+    /// The entries of the message at these places, which a plan leaves below the size of the field. There are at most as many
     /// as the room.
     pub fn coefficients(&self) -> &[u8]
         ensures entries { result.now ≡ self.now.coefficients }

@@ -3,7 +3,7 @@
 --                            the best word
 --   first_state C budget     a search that has done no block
 --   answer_in s              what is answered in this state; None if the search goes on
---   after_search_round s limit   the state after a round of at most so many blocks
+--   after_search_round s longest limit   the state after a round of at most so many blocks
 --   whole_plan C             the plan that goes through all information sets of the code
 --   answer_of a              an answer of the program, as the definitions write it
 --   IsKept C plan budget s levels      what is true of what a search keeps

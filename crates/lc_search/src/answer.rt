@@ -2,7 +2,8 @@
 
 use lc_board::RoundResult;
 
-/// What a search answers.
+/// What a search answers. What it says of the minimum distance holds of a search that began with no block, or from the record of
+/// such a search.
 #[derive(Clone, Copy, Debug, PartialEq, Eq)]
 pub enum Answer {
     /// The minimum distance.
@@ -41,8 +42,8 @@ pub struct Best {
 pub struct RoundRecord {
     /// The blocks that are done after the round.
     pub blocks: u64,
-    /// Each nonzero codeword of which no multiple was seen in these blocks has at least this weight. The lesser of this and `best`
-    /// is a lower bound on the minimum distance.
+    /// Each nonzero codeword of which no multiple was seen in these blocks has at least this weight. If the search began with no
+    /// block, or from the record of such a search, the lesser of this and `best` is a lower bound on the minimum distance.
     pub bound: u64,
     /// The least weight found so far.
     pub best: u64,

@@ -149,9 +149,9 @@ impl Search {
         bound_of_levels(&self.sets, &self.levels, self.best.weight)
     }
 
-    /// What the search answers: the minimum distance, if the bound after some whole phases has reached the weight of the best
-    /// word; else, if the budget is used up, the bracket from the bound to this weight. None if the search goes on. It
-    /// takes no memory.
+    /// What the search answers: the weight of the best word, as the minimum distance, if the bound after some whole phases has
+    /// reached it; else, if the budget is used up, the bracket from the bound to this weight. None if the search goes on. It takes
+    /// no memory.
     pub fn finished(&self) -> Option<Answer>
         ensures is { option_map answer_of result ≡ answer_in self.now }
     {

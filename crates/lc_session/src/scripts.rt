@@ -76,7 +76,7 @@ fn cleared<V: Vault>(vault: &mut V, keep: bool) -> Result<(), Failed>
 }
 
 /// The session of `run`: reads a script, empties the slots if checkpoints are kept, and writes the text of the script. It
-/// doesn't end for want of memory if the source gives no byte.
+/// doesn't end for want of memory if the source tells its bytes and has none.
 pub(crate) fn run<R: Threads + Sync, S: Source, K: Sink, V: Vault, W: Watcher, G: Gate + Sync>(
     crew: &Crew<'_, R, G>,
     asked: Settings,

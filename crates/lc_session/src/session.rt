@@ -81,7 +81,7 @@ pub fn run_session_over<
 /// `run` reads a script of at most 1,048,576 bytes from the source, and writes the text that it prints
 /// to the sink: a line for each value and each answer, and a fault line if the script or a statement
 /// is refused, which ends the text. After the command there may be `workers=N`, N from 1 to 256, for
-/// the workers of a search; `budget=N`, N at most 2^40, for the blocks of 4,096 words that a search may
+/// the workers of a search; `budget=N`, N at most 2^40, for the blocks of at most 4,096 words that a search may
 /// take, 2^20 without it; `round=N`, N from 1 to 2^20, for the blocks that a round of a search may take,
 /// 256 without it; `keep=yes` or `keep=no`; and with `keep=yes` `slice=N`, N from 1 to 2^40, for the
 /// blocks that the session may take. They come in any order, each at most once.
@@ -95,7 +95,7 @@ pub fn run_session_over<
 /// it proves its distance, or the first reason for which it is rejected. `summary seed=N`, after which
 /// there may be `workers=N`, `round=N` and `budget=N`, reads nothing, and writes the line of a code of length 48.
 ///
-/// Nothing is written unless the whole text is ready. `run` of an empty script
+/// Nothing is written unless the whole text is ready. `run` of a source that tells its bytes and has none
 /// does not end for want of memory. The contract of a session is `IsSession` of `lc_session_rules`: what is read,
 /// told, stored and written under each status, and when each of them comes.
 pub fn run_session<R: Threads + Sync, S: Source, K: Sink, V: Vault, G: Gate + Sync>(
@@ -115,7 +115,7 @@ pub fn run_session<R: Threads + Sync, S: Source, K: Sink, V: Vault, G: Gate + Sy
         (outside_of (S.rest source.new) (S.faults source.new) (K.written sink.new) (K.faults sink.new)
         (around (V.contents vault.new) (V.faults vault.new)
         (map (hearing (λ w. heard w) (λ w. coming w) (λ w. pauses w)) watchers.new.items))) (ending_of result) }
-    // `run` does not end for want of memory if the source gives no byte.
+    // `run` does not end for want of memory if the source tells its bytes and has none.
     ensures nothing { (asked : Settings) → options all_options (words_of arguments.now) ≡ settings asked →
         asked.command ≡ line.run → S.rest source.old ≡ Some [] → (told : ℕ) → result ≢ Status.NoMemory told }
 {

@@ -61,7 +61,7 @@ pub record IsPartText (table : List Call) (bytes : List ℕ) (a : PartAsked) (te
 abbrev pub HasNoPart : List Call → List ℕ → PartAsked → Type 0
 HasNoPart table bytes a = IsNeeds table bytes [] ⊎ ((code : Matrix) × MeetsFirst table bytes (code ∷ []) × ¬ IsInside code a.start a.count)
 
--- the source was read to its end and the sink took nothing
+-- the source was read to its end, and didn't fail
 pub record HasRead (old new : Ends) (bytes : List ℕ) : Type 0 where
   pub read : WasRead old.source new.source bytes
   pub faults : new.source_faults ≡ old.source_faults
