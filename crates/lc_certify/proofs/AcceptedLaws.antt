@@ -72,11 +72,11 @@ pub told_accepted : (c : Certificate) → IsShaped c → IsValid c → IsCheckTe
 told_accepted c h v = told (line (certificate_text c)) c (line_reads c h) (valid_is_accepted c h v)
 
 none_with : (why : List ℕ) (n : ℕ) → SaysNone (no_certificate_line why n)
-unfolding no_certificate_line line
+unfolding no_certificate_line
 none_with why n =
-    let rest = why ++ (codes " " ++ (decimal n ++ 10 ∷ [])) in
-    let e : no_certificate_line why n ≡ codes "certificate none " ++ rest = simp append_assoc in
-    record { begins = (codes " " ++ rest, e) }
+    let after = codes " " ++ (why ++ (codes " " ++ decimal n)) in
+    let e : codes "certificate none " ++ why ++ codes " " ++ decimal n ≡ codes "certificate none" ++ after = simp append_assoc in
+    record { why = after; line_is = ap line e }
 
 pub line_cases : (c : Certificate) → SaysNone (certificate_line c) ⊎ ((cost c ≤ 2 ^ 32) × (certificate_line c ≡ line (certificate_text c)))
 unfolding certificate_line
@@ -137,12 +137,15 @@ pub exact_line_at : (kind : QueryKind) (C : Matrix) (w : List ℕ) (d l : ℕ) �
 exact_line_at kind C w d l h word x = accepted_at kind C w d l h (shaped_at kind C w d l h word x) word x
 
 bracket_none : (kind : QueryKind) (C : Matrix) (low l : ℕ) (x : Found) → SaysNone (certificate_answer_line kind C (bracket low x l))
-unfolding certificate_answer_line line
-bracket_none kind C low l x = record { begins = ((codes " between " ++ (decimal low ++ (codes " and " ++ decimal x.weight))) ++ 10 ∷ [], simp append_assoc) }
+unfolding certificate_answer_line
+bracket_none kind C low l x =
+    let why = codes " between " ++ (decimal low ++ (codes " and " ++ decimal x.weight)) in
+    let e : codes "certificate none between " ++ decimal low ++ codes " and " ++ decimal x.weight ≡ codes "certificate none" ++ why = simp append_assoc in
+    record { why = why; line_is = ap line e }
 
 pub empty_none : (kind : QueryKind) (C : Matrix) → SaysNone (certificate_answer_line kind C no_word)
-unfolding certificate_answer_line line
-empty_none kind C = record { begins = (10 ∷ [], refl) }
+unfolding certificate_answer_line
+empty_none kind C = record { why = []; line_is = refl }
 
 answered : (kind : QueryKind) (C : Matrix) (budget : ℕ) (a : Answer) → IsSearchable C → answer (divisor_of C) C budget ≡ a → SaysNone (certificate_answer_line kind C a) ⊎ IsAcceptedFor C (certificate_answer_line kind C a)
 unfolding certificate_answer_line

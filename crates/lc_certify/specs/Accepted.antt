@@ -1,7 +1,7 @@
 -- When the certificate of a search is accepted.
 --   IsSearchable C           a code over a symbol field, of length 1 to 255, with independent rows, at least one
 --   IsExactAt C w d l        after l blocks the search is done, and w is a word of the code that has the weight of its best word, d
---   SaysNone text            the line says that there is no certificate
+--   SaysNone text            the text is one line, which says that there is no certificate, and why
 --   IsAcceptedFor C text     `check` says of the text that it is accepted, with the minimum distance of the code
 use Rattle.std.specs.Prelude.{◌≡◌, ℕ, ◌≤◌, true, List, ◌++◌, length, codes, decimal}
 use Rattle.lc_algebra.specs.Field.{is_symbol}
@@ -29,7 +29,8 @@ pub record IsExactAt (C : Matrix) (w : List ℕ) (d l : ℕ) : Type 0 where
   pub weighs : weight w ≡ d
 
 pub record SaysNone (text : List ℕ) : Type 0 where
-  pub begins : (rest : List ℕ) × (text ≡ codes "certificate none" ++ rest)
+  pub why : List ℕ
+  pub line_is : text ≡ line (codes "certificate none" ++ why)
 
 pub record IsAcceptedFor (C : Matrix) (text : List ℕ) : Type 0 where
   pub distance : ℕ

@@ -10,7 +10,7 @@
 --   large_exact, large_stated      a budget of as many blocks as all sets together have messages gives an exact answer
 use Rattle.std.proofs.Common.{◌≡◌, ℕ, suc, ◌-◌, ◌*◌, ◌/◌, ◌^◌, ◌≤◌, ◌⊎◌, ◌==◌, min, nat_le, nat_lt, if◌then◌else◌, Bool, true, false, List, [], ◌∷◌, ◌++◌, length, find, filter, All, codes, inl, inr, ⊎_elim, refl, sym, ap, subst, ◌∙◌, arith}
 use Rattle.std.specs.Prelude.{Option, Some, None, slice_get}
-use Rattle.std.proofs.lemmas.Bool.{cases_Bool, ltb-false}
+use Rattle.std.proofs.lemmas.Bool.{cases_Bool, ltb-true, ltb-false}
 use Rattle.std.proofs.lemmas.List.{append-nil}
 use Rattle.std.proofs.lemmas.List.Elements.{All-nil, All-cons}
 use Rattle.lc_algebra.specs.Field.{size}
@@ -102,16 +102,16 @@ distance_said C budget (bracket low x l) h e = inr (bracket_stated C budget low 
 -- ---- certificates
 
 pub dear_or_text : (c : Certificate) → SaysDear (certificate_line c) ⊎ ((cost c ≤ 2 ^ 32) × (certificate_line c ≡ line (certificate_text c)))
-unfolding certificate_line
+unfolding certificate_line longest
 dear_or_text c =
     let text = line (certificate_text c) in
     let costly = no_certificate_line (codes "cost") (min (cost c) (2 ^ 64 - 1)) in
     let long = no_certificate_line (codes "length") (length text) in
     let inner = if nat_lt longest (length text) then long else text in
     ⊎_elim
-    (λ t. inl (subst (λ b. SaysDear (if b then costly else inner)) (sym t) (record { why = codes "cost"; number = min (cost c) (2 ^ 64 - 1); why_is = inl refl; line_is = refl })))
+    (λ t. inl (subst (λ b. SaysDear (if b then costly else inner)) (sym t) (record { why = codes "cost"; number = min (cost c) (2 ^ 64 - 1); why_is = inl (refl, omega (arith, ltb-true (2 ^ 32) (cost c) t)); line_is = refl })))
     (λ t. ⊎_elim
-    (λ s. inl (subst (λ b. SaysDear (if b then costly else inner)) (sym t) (subst (λ b. SaysDear (if b then long else text)) (sym s) (record { why = codes "length"; number = length text; why_is = inr refl; line_is = refl }))))
+    (λ s. inl (subst (λ b. SaysDear (if b then costly else inner)) (sym t) (subst (λ b. SaysDear (if b then long else text)) (sym s) (record { why = codes "length"; number = length text; why_is = inr (refl, ltb-true longest (length text) s); line_is = refl }))))
     (λ s. inr (ltb-false (2 ^ 32) (cost c) t, ap (λ b. if b then costly else inner) t ∙ ap (λ b. if b then long else text) s))
     (cases_Bool (nat_lt longest (length text))))
     (cases_Bool (nat_lt (2 ^ 32) (cost c)))

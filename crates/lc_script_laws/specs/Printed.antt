@@ -8,7 +8,8 @@
 --   StatesBracket C budget text      the line states two numbers between which the minimum distance lies, and a word of the code that has
 --                                    the greater weight
 --   SaysBetween C text               the line says that there is no certificate, and two numbers between which the minimum distance lies
---   SaysDear text                    the line says that there is none since it costs a checker too much, or is too long
+--   SaysDear text                    the line says that there is none, since it costs a checker more than 2^32 words or is longer than
+--                                    2^20 bytes, and how much
 --   StatesDistribution C text        the line states for each weight from 0 to the length how many words of the code have it: these
 --                                    numbers are q^k together
 --   IsTrueLine kind C budget text    the line of a query is true: a distance or a bracket; or a certificate that is accepted for the
@@ -92,7 +93,7 @@ pub record SaysBetween (C : Matrix) (text : List ℕ) : Type 0 where
 pub record SaysDear (text : List ℕ) : Type 0 where
   pub why : List ℕ
   pub number : ℕ
-  pub why_is : (why ≡ codes "cost") ⊎ (why ≡ codes "length")
+  pub why_is : ((why ≡ codes "cost") × (2 ^ 32 < number)) ⊎ ((why ≡ codes "length") × (2 ^ 20 < number))
   pub line_is : text ≡ no_certificate_line why number
 
 pub record StatesDistribution (C : Matrix) (text : List ℕ) : Type 0 where

@@ -1,4 +1,4 @@
-//! In which order watchers hear a record, and when one that leaves is dropped.
+//! In which order watchers hear a record, how often one that leaves does, and when it is dropped.
 use lc_io::{Advice, Record, Watcher};
 use lc_search::tell;
 use std::alloc::{AllocError, Global};
@@ -53,6 +53,21 @@ fn watchers_hear_in_their_order(rt: HostRuntime) -> Result<(), Fail> {
         })?;
     }
     assert!(rt; !tell(&mut watchers, &NOTE) && watchers.len() == 5);
+    Ok(())
+}
+
+#[test]
+fn a_watcher_that_leaves_hears_a_record_once(rt: HostRuntime) -> Result<(), Fail> {
+    let before = AtomicU64::new(0);
+    let mut watchers = Vec::new(rt.alloc());
+    for _each in 0..3 {
+        watchers.push(TurnWatcher {
+            before: &before,
+            number: 9,
+        })?;
+    }
+    assert!(rt; !tell(&mut watchers, &NOTE) && watchers.is_empty());
+    assert!(rt; before.load(Ordering::Relaxed) == 3);
     Ok(())
 }
 
