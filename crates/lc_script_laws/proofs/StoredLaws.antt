@@ -1,12 +1,13 @@
 -- Sessions of scripts store true checkpoints.
 --   read_whole           a session that told a record has read its script
 --   is_grounded          so the laws of stored slots rest on nothing
+--   torn_ground          nor does a session whose store failed
 --   stores_truly         the slots after a session
 --   stores_afresh        those after a session of `run` that emptied them
 --   true_turn            the turn of a true checkpoint is below 2^58
 --   tells_early          and so is that of a record told
 --   slots_stay           true slots stay true
-use Rattle.std.proofs.Common.{◌≡◌, ◌⊎◌, inl, inr, ◌≤◌, ◌<◌, ◌^◌, ℕ, true, List, [], ◌∷◌, ◌++◌, length, Option, Some, refl, sym, subst}
+use Rattle.std.proofs.Common.{◌≡◌, ◌⊎◌, inl, inr, ◌≤◌, ◌<◌, ◌^◌, ℕ, true, List, [], ◌∷◌, ◌++◌, length, Option, Some, refl, sym, subst, ◌∙◌}
 use Rattle.std.specs.Prelude.{IsTrue}
 use Rattle.lc_enumeration.specs.Records.{SessionStep}
 use Rattle.lc_formats.specs.Checkpoint.{Checkpoint}
@@ -17,7 +18,7 @@ use Rattle.lc_session_rules.specs.Slots.{turn_after, IsTrueCheckpoint, AreTrueSl
 use Rattle.lc_session_rules.specs.Endings.{Ending, done, usage, paused, source_fault, sink_fault, vault_fault, no_memory, no_checkpoint, damaged_checkpoint, other_script, rejected, too_long, unfit}
 use Rattle.lc_session_rules.specs.Session.{Outside, Course, most_bytes, keeps, Accepts, ReadsScript, Reads, Ends, IsSession}
 use Rattle.lc_session_rules.specs.Promises.{StartsTruly, StoresTruly, StoresAfresh, EmptiesSo}
-use Rattle.lc_session_rules.specs.Chain.{HasBegun, TearsSo}
+use Rattle.lc_session_rules.specs.Chain.{IsGround, HasBegun, TearsSo}
 use Rattle.lc_session_rules.proofs.GroundLaws as chains
 use Rattle.lc_session_rules.proofs.StoredTruly.{IsGrounded, grounded_stores, grounded_afresh, grounded_early, grounded_stay}
 use Rattle.lc_script_laws.proofs.GroundLaws.{script_is_ground}
@@ -50,10 +51,14 @@ reads_by summary ending asked held old new course truly r e = absurd truly
 refused_silent : (ending : Ending) (i : ℕ) (asked : Settings) (course : Course) → ending ≡ usage i → Ends ending asked course → course.told ≡ []
 refused_silent ending i asked course e ends = subst (λ (x : Ending). Ends x asked course) e ends
 
+-- accepted arguments ask for a budget of at most 2^40 blocks
+accepted_ground : (args : List (List ℕ)) (s asked : Settings) (course : Course) → options all_options args ≡ settings s → asked ≡ s → length course.bytes ≤ most_bytes → IsGround built_calls course.bytes asked.budget
+accepted_ground args s asked course is same short = script_is_ground course.bytes asked.budget short (subst (λ (t : Settings). t.budget ≤ 2 ^ 40) (sym same) (options_usual all_options args s is).budget_is)
+
 grounded_by : (args : List (List ℕ)) (o : Options) (asked : Settings) (old new : Outside) (ending : Ending) (course : Course) → options all_options args ≡ o → Accepts o asked old new ending → Ends ending asked course → (course.told ≡ []) ⊎ (length course.bytes ≤ most_bytes) → IsGrounded built_calls asked course
 grounded_by args (refuses i) asked old new ending course is h ends read = inl (refused_silent ending i asked course h.1 ends)
 grounded_by args (settings s) asked old new ending course is h ends (inl e) = inl e
-grounded_by args (settings s) asked old new ending course is h ends (inr short) = inr (script_is_ground course.bytes asked.budget short (subst (λ (t : Settings). t.budget ≤ 2 ^ 40) (sym h.0) (options_usual all_options args s is).budget_is))
+grounded_by args (settings s) asked old new ending course is h ends (inr short) = inr (accepted_ground args s asked course is h.0 short)
 
 -- whatever the slots, if the command is one that keeps checkpoints
 reads_if_kept : (c : Command) (ending : Ending) (asked : Settings) (old new : Option (List ℕ)) (course : Course) → IsTrue (keeps c) → Reads c ending old new course → Ends ending asked course → (course.told ≡ []) ⊎ (length course.bytes ≤ most_bytes)
@@ -62,11 +67,23 @@ reads_if_kept resume ending asked old new course may r e = read_whole ending ask
 reads_if_kept check ending asked old new course may r e = absurd (let f = may in cc)
 reads_if_kept summary ending asked old new course may r e = absurd (let f = may in cc)
 
+-- a session whose store failed has read its script, and its arguments are accepted
+read_torn : (c : Command) (ending : Ending) (old new : Option (List ℕ)) (course : Course) → IsTrue (keeps c) → Reads c ending old new course → (told : ℕ) → ending ≡ vault_fault told → length course.bytes ≤ most_bytes
+read_torn run ending old new course may r told e = (subst (λ (x : Ending). ReadsScript x old new course) e r).within
+read_torn resume ending old new course may r told e = (subst (λ (x : Ending). ReadsScript x old new course) e r).within
+read_torn check ending old new course may r told e = absurd (let f = may in cc)
+read_torn summary ending old new course may r told e = absurd (let f = may in cc)
+
+torn_ground : (args : List (List ℕ)) (o : Options) (asked : Settings) (old new : Outside) (ending : Ending) (course : Course) → options all_options args ≡ o → Accepts o asked old new ending → length course.bytes ≤ most_bytes → (told : ℕ) → ending ≡ vault_fault told → IsGround built_calls course.bytes asked.budget
+torn_ground args (refuses i) asked old new ending course is h short told e = absurd (let f = sym h.1 ∙ e in cc)
+torn_ground args (settings s) asked old new ending course is h short told e = accepted_ground args s asked course is h.0 short
+
 pub slots_stay : (args : List (List ℕ)) (old new : Outside) (ending : Ending) (s : IsSession built_calls args old new ending) (before after : Slots) → IsTrue (keeps s.asked.command) → old.vault ≡ Some before → new.vault ≡ Some after
     → AreTrueSlots built_calls s.course.bytes s.asked.budget before → TearsSo s.asked s.course before after → (s.asked.command ≡ run → s.course.told ≡ [] → EmptiesSo before after) → AreTrueSlots built_calls s.course.bytes s.asked.budget after
 slots_stay args old new ending s before after may is now both tears so =
     let grounded = grounded_by args (options all_options args) s.asked old new ending s.course refl s.accepted s.ended (reads_if_kept s.asked.command ending s.asked old.source new.source s.course may s.read s.ended) in
-    grounded_stay built_calls args old new ending s before after grounded may is now both tears so
+    grounded_stay built_calls args old new ending s before after grounded
+    (λ told e. torn_ground args (options all_options args) s.asked old new ending s.course refl s.accepted (read_torn s.asked.command ending old.source new.source s.course may s.read told e) told e) may is now both tears so
 
 is_grounded : (args : List (List ℕ)) (old new : Outside) (ending : Ending) (s : IsSession built_calls args old new ending) → StartsTruly built_calls s.asked.command s.asked old.vault s.course → IsGrounded built_calls s.asked s.course
 is_grounded args old new ending s truly =

@@ -134,8 +134,8 @@ pub fn scripts_are_ground()
 /// them as `resume` asks for them; and a session of `resume` over the slots of a chain that finishes prints the text of the script
 /// under its budget, whatever the workers, slices and endings of the sessions before it were. So does one over slots each of which is
 /// empty, holds no checkpoint, or a true one in the slot of its turn. Such slots stay such under every session of `run` and `resume`,
-/// however it ends, if a store that failed left what was there or bytes that are no checkpoint. A session of `run` that finishes
-/// prints it over any slots.
+/// however it ends, if a store that failed left what was there, bytes that are no checkpoint, or all of the bytes that it was given:
+/// the checkpoint of the next step. A session of `run` that finishes prints it over any slots.
 pub fn chains_print_the_text()
     ensures slots { (bytes : List ℕ) (budget : ℕ) → length bytes ≤ most_bytes → budget ≤ 2 ^ 40 →
         (version : ℕ) (slots : Slots) → Chain built_calls bytes budget version slots →

@@ -2,6 +2,7 @@
 --   AreUsual             settings in these ranges
 --   options_usual        the settings of arguments that are accepted
 --   told_long            a session whose arguments are accepted has rounds of a block or more; any other one told nothing
+--   rounds_long          so has one that doesn't end by its arguments
 use Rattle.std.proofs.Common.{◌≡◌, ◌≤◌, ◌^◌, ℕ, suc, Bool, true, false, List, [], ◌∷◌, ◌++◌, length, ◌⊎◌, inl, inr, Option, Some, None, refl, sym, subst, arith}
 use Rattle.std.specs.Prelude.{option_map, option_and_then, is_some, if◌then◌else◌, ◌&&◌, ◌==◌, not, nat_le}
 use Rattle.std.specs.List.{list_any, before_first, after_first}
@@ -9,7 +10,7 @@ use Rattle.std.proofs.lemmas.Bool.{and_parts, leb-true}
 use Rattle.std.proofs.lemmas.Option.{cond_some}
 use Rattle.lc_enumeration.specs.Records.{default_round}
 use Rattle.lc_language.specs.declared.Call.{Call}
-use Rattle.lc_session_rules.specs.Endings.{Ending}
+use Rattle.lc_session_rules.specs.Endings.{Ending, usage as ends_usage}
 use Rattle.lc_session_rules.specs.Session.{Outside, Course, Accepts, Ends, IsSession}
 use Rattle.lc_session_rules.specs.Options.{Command, run, resume, check, summary, Key, workers, round, budget, slice, keep, seed, CommandRow, Settings, settings_of, number_in, number_within, yes_or_no, put_key, key_named, row_named, same_key, place_of_key, Options, settings, usage, all_options, checked, options_from, options}
 
@@ -117,3 +118,10 @@ long_or_silent (settings t) asked old new ending course h accepts ends = inr (su
 
 pub told_long : (table : List Call) (args : List (List ℕ)) (old new : Outside) (ending : Ending) (s : IsSession table args old new ending) → (s.course.told ≡ []) ⊎ (1 ≤ s.asked.round)
 told_long table args old new ending s = long_or_silent (options all_options args) s.asked old new ending s.course (λ t e. options_usual all_options args t e) s.accepted s.ended
+
+accepted_long : (o : Options) (asked : Settings) (old new : Outside) (ending : Ending) → ((t : Settings) → o ≡ settings t → AreUsual t) → Accepts o asked old new ending → ((i : ℕ) → ¬ (ending ≡ ends_usage i)) → 1 ≤ asked.round
+accepted_long (usage i) asked old new ending h accepts other = absurd (other i accepts.1)
+accepted_long (settings t) asked old new ending h accepts other = subst (λ (s : Settings). 1 ≤ s.round) (sym accepts.0) (h t refl).long
+
+pub rounds_long : (table : List Call) (args : List (List ℕ)) (old new : Outside) (ending : Ending) (s : IsSession table args old new ending) → ((i : ℕ) → ¬ (ending ≡ ends_usage i)) → 1 ≤ s.asked.round
+rounds_long table args old new ending s other = accepted_long (options all_options args) s.asked old new ending (λ t e. options_usual all_options args t e) s.accepted other

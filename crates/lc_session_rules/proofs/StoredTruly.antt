@@ -2,6 +2,7 @@
 --   run_steps, resume_steps      the steps of a session that starts truly have true checkpoints
 --   true_last            the checkpoint of one of them
 --   steps_same           a slot that they are stored in is empty or true
+--   next_truly           the steps told, and the next one, have true checkpoints
 --   IsGrounded           what is asked of the script: nothing, as long as no record is told
 --   stores_truly         the slots after a session
 --   stores_afresh        those after a session of `run` that emptied them
@@ -28,42 +29,42 @@ use Rattle.lc_session_rules.specs.Options.{Command, run, resume, check, summary,
 use Rattle.lc_session_rules.specs.Needs.{MeetsFirst}
 use Rattle.lc_session_rules.specs.Slots.{slot_of, next_turn, turn_after, point_of, stored_bytes, slots_after, takes, start_in, IsTrueCheckpoint, IsTornOr, IsEmptyOrTrue, AreTrueSlots}
 use Rattle.lc_session_rules.specs.Endings.{Ending, done, usage, paused, source_fault, sink_fault, vault_fault, no_memory, no_checkpoint, damaged_checkpoint, other_script, rejected, too_long, unfit}
-use Rattle.lc_session_rules.specs.Session.{Outside, Course, rounds_of, Finds, GoesOnFrom, IsResumed, IsFresh, Starts, Meets, Ends, begin_with, told_slots, Keeps, Tears, AreHalfEmptied, FailsFirst, StoresIfKept, Stores, Counts, keeps, IsSession}
+use Rattle.lc_session_rules.specs.Session.{Outside, Course, rounds_of, Finds, GoesOnFrom, IsResumed, IsFresh, Starts, Meets, Ends, begin_with, told_slots, Keeps, Tears, AreHalfEmptied, FailsFirst, IsStarted, StoresIfKept, Stores, Counts, keeps, IsSession}
 use Rattle.lc_session_rules.specs.Promises.{StartsTruly, IsSameOrTrue, next_slot, StoresTruly, StoresAfresh, EmptiesSo}
-use Rattle.lc_session_rules.specs.Chain.{IsLeft, IsGround, HasBegun, TearsSo}
+use Rattle.lc_session_rules.specs.Chain.{IsLeft, IsGround, HasBegun, IsNextCheckpoint, TearsSo}
 use Rattle.lc_session_rules.proofs.TrueSteps.{AreTrueSteps, true_front}
 use Rattle.lc_session_rules.proofs.GroundLaws.{true_turn}
 use Rattle.lc_session_rules.proofs.ChainLaws.{begun_truly, resumed_start}
-use Rattle.lc_session_rules.proofs.SessionChains.{chosen_is, kept_stores}
+use Rattle.lc_session_rules.proofs.SessionChains.{chosen_is, one_more, next_stored, kept_stores}
 use Rattle.lc_session_rules.proofs.HonestLaws.{chosen_true}
-use Rattle.lc_session_rules.proofs.OptionLaws.{told_long}
+use Rattle.lc_session_rules.proofs.OptionLaws.{told_long, rounds_long}
 
 -- ---- the steps told
 
-run_steps : (table : List Call) (asked : Settings) (course : Course) → 1 ≤ asked.round → IsGround table course.bytes asked.budget → IsFresh course → MeetsFirst table course.bytes course.needs → (rounds_of asked course).steps ≡ course.told ++ course.left
-    → AreTrueSteps 2 course.needs (sha256 course.bytes) asked.budget course.turn course.told
+run_steps : (table : List Call) (asked : Settings) (course : Course) (told left : List SessionStep) → 1 ≤ asked.round → IsGround table course.bytes asked.budget → IsFresh course → MeetsFirst table course.bytes course.needs → (rounds_of asked course).steps ≡ told ++ left
+    → AreTrueSteps 2 course.needs (sha256 course.bytes) asked.budget course.turn told
 unfolding divisor_in
-run_steps table asked course long ground fresh met rounds =
+run_steps table asked course told left long ground fresh met rounds =
     let d = sha256 course.bytes in
     let over = λ (t : Start). (session_rounds divisor_of course.needs asked.budget asked.round asked.slice t).steps in
     let all : AreTrueSteps 2 course.needs d asked.budget 0 (over fresh_start) = begun_truly table course.bytes asked.budget asked.round 2 course.needs long ground (inr refl) met asked.slice in
-    let mine : over fresh_start ≡ course.told ++ course.left = subst (λ (t : Start). over t ≡ course.told ++ course.left) fresh.start rounds in
-    subst (λ (t : ℕ). AreTrueSteps 2 course.needs d asked.budget t course.told) (sym fresh.turn) (true_front 2 course.needs d asked.budget 0 course.told course.left (subst (AreTrueSteps 2 course.needs d asked.budget 0) mine all))
+    let mine : over fresh_start ≡ told ++ left = subst (λ (t : Start). over t ≡ told ++ left) fresh.start rounds in
+    subst (λ (t : ℕ). AreTrueSteps 2 course.needs d asked.budget t told) (sym fresh.turn) (true_front 2 course.needs d asked.budget 0 told left (subst (AreTrueSteps 2 course.needs d asked.budget 0) mine all))
 
 at_most_two : (version : ℕ) → (version ≡ 1) ⊎ (version ≡ 2) → version ≤ 2
 at_most_two version (inl e) = omega (arith, e)
 at_most_two version (inr e) = omega (arith, e)
 
-resume_steps : (table : List Call) (asked : Settings) (held : Option Slots) (course : Course) (p : Checkpoint) → 1 ≤ asked.round → IsGround table course.bytes asked.budget → GoesOnFrom asked held course p → IsTrueCheckpoint table course.bytes asked.budget p → MeetsFirst table course.bytes course.needs → (rounds_of asked course).steps ≡ course.told ++ course.left
-    → AreTrueSteps 2 course.needs (sha256 course.bytes) asked.budget course.turn course.told
+resume_steps : (table : List Call) (asked : Settings) (held : Option Slots) (course : Course) (p : Checkpoint) (told left : List SessionStep) → 1 ≤ asked.round → IsGround table course.bytes asked.budget → GoesOnFrom asked held course p → IsTrueCheckpoint table course.bytes asked.budget p → MeetsFirst table course.bytes course.needs → (rounds_of asked course).steps ≡ told ++ left
+    → AreTrueSteps 2 course.needs (sha256 course.bytes) asked.budget course.turn told
 unfolding divisor_in start_in start_of
-resume_steps table asked held course p long ground from (front, met_front, holds) met rounds =
+resume_steps table asked held course p told left long ground from (front, met_front, holds) met rounds =
     let d = sha256 course.bytes in
     let over = λ (t : Start). (session_rounds divisor_of course.needs asked.budget asked.round asked.slice t).steps in
     let all : AreTrueSteps 2 course.needs d asked.budget (next_turn p.turn) (over (start_of course.needs p)) =
     resumed_start table course.bytes asked.budget asked.round 2 course.needs front p long ground (inr refl) holds.known (at_most_two p.version holds.known) met met_front holds asked.slice in
-    let mine : over (start_of course.needs p) ≡ course.told ++ course.left = subst (λ (t : Start). over t ≡ course.told ++ course.left) from.start rounds in
-    subst (λ (t : ℕ). AreTrueSteps 2 course.needs d asked.budget t course.told) (sym from.turn) (true_front 2 course.needs d asked.budget (next_turn p.turn) course.told course.left (subst (AreTrueSteps 2 course.needs d asked.budget (next_turn p.turn)) mine all))
+    let mine : over (start_of course.needs p) ≡ told ++ left = subst (λ (t : Start). over t ≡ told ++ left) from.start rounds in
+    subst (λ (t : ℕ). AreTrueSteps 2 course.needs d asked.budget t told) (sym from.turn) (true_front 2 course.needs d asked.budget (next_turn p.turn) told left (subst (AreTrueSteps 2 course.needs d asked.budget (next_turn p.turn)) mine all))
 
 true_last : (version : ℕ) (needs : List Matrix) (digest : List ℕ) (budget turn : ℕ) (before : List SessionStep) (s : SessionStep) → AreTrueSteps version needs digest budget turn (before ++ s ∷ []) → IsTrueFor needs digest budget (point_of version digest budget (turn_after turn before) s)
 true_last version needs digest budget turn [] s h = h.0
@@ -91,23 +92,36 @@ resumed_or_silent table (unfit query told found) asked held course h e = inl e
 abbrev pub IsGrounded : List Call → Settings → Course → Type 0
 IsGrounded table asked course = (course.told ≡ []) ⊎ IsGround table course.bytes asked.budget
 
--- the needs are met, and the steps have true checkpoints
-record DoesTruly (table : List Call) (asked : Settings) (course : Course) : Type 0 where
+-- the needs are met, and these first steps have true checkpoints
+record DoesTruly (table : List Call) (asked : Settings) (course : Course) (told : List SessionStep) : Type 0 where
   ground : IsGround table course.bytes asked.budget
   met : MeetsFirst table course.bytes course.needs
-  steps : AreTrueSteps 2 course.needs (sha256 course.bytes) asked.budget course.turn course.told
+  steps : AreTrueSteps 2 course.needs (sha256 course.bytes) asked.budget course.turn told
 
 does_truly : (table : List Call) (ending : Ending) (asked : Settings) (held : Option Slots) (course : Course) (c : Command) → StartsTruly table c asked held course → Starts table c ending asked held course → Meets table asked c course → Ends ending asked course → (rounds_of asked course).steps ≡ course.told ++ course.left
-    → (course.told ≡ []) ⊎ (1 ≤ asked.round) → IsGrounded table asked course → (course.told ≡ []) ⊎ DoesTruly table asked course
+    → (course.told ≡ []) ⊎ (1 ≤ asked.round) → IsGrounded table asked course → (course.told ≡ []) ⊎ DoesTruly table asked course course.told
 does_truly table ending asked held course c truly started met ended rounds (inl e) ground = inl e
 does_truly table ending asked held course c truly started met ended rounds (inr long) (inl e) = inl e
-does_truly table ending asked held course run truly started met ended rounds (inr long) (inr ground) = inr (record { ground = ground; met = met; steps = run_steps table asked course long ground started met rounds })
+does_truly table ending asked held course run truly started met ended rounds (inr long) (inr ground) = inr (record { ground = ground; met = met; steps = run_steps table asked course course.told course.left long ground started met rounds })
 does_truly table ending asked held course resume truly started met ended rounds (inr long) (inr ground) =
     ⊎_elim (λ (e : course.told ≡ []). inl e)
-    (λ (r : IsResumed asked held course). inr (record { ground = ground; met = met; steps = resume_steps table asked held course r.0 long ground r.1 (truly r.0 r.1) met rounds }))
+    (λ (r : IsResumed asked held course). inr (record { ground = ground; met = met; steps = resume_steps table asked held course r.0 course.told course.left long ground r.1 (truly r.0 r.1) met rounds }))
     (resumed_or_silent table ending asked held course started ended)
 does_truly table ending asked held course check truly started met ended rounds (inr long) (inr ground) = absurd truly
 does_truly table ending asked held course summary truly started met ended rounds (inr long) (inr ground) = absurd truly
+
+-- so do the steps told and the next one, of a session that has started
+next_truly : (table : List Call) (ending : Ending) (asked : Settings) (held : Option Slots) (course : Course) (c : Command) → StartsTruly table c asked held course → Starts table c ending asked held course → IsStarted c asked held course → Meets table asked c course → (rounds_of asked course).steps ≡ course.told ++ course.left
+    → 1 ≤ asked.round → IsGround table course.bytes asked.budget → (s : SessionStep) (rest : List SessionStep) → course.left ≡ s ∷ rest → DoesTruly table asked course (course.told ++ s ∷ [])
+next_truly table ending asked held course run truly starts started met rounds long ground s rest is =
+    record { ground = ground; met = met; steps = run_steps table asked course (course.told ++ s ∷ []) rest long ground starts met (one_more (rounds_of asked course).steps course.told course.left s rest rounds is) }
+next_truly table ending asked held course resume truly starts started met rounds long ground s rest is = record {
+  ground = ground;
+  met = met;
+  steps = resume_steps table asked held course started.0 (course.told ++ s ∷ []) rest long ground started.1 (truly started.0 started.1) met (one_more (rounds_of asked course).steps course.told course.left s rest rounds is);
+}
+next_truly table ending asked held course check truly starts started met rounds long ground s rest is = absurd truly
+next_truly table ending asked held course summary truly starts started met rounds long ground s rest is = absurd truly
 
 -- ---- the slots
 
@@ -149,29 +163,33 @@ module _ (table : List Call) (bytes : List ℕ) (budget : ℕ) where
       by Zero = all One
       by One = all Zero
 
--- the slots once the checkpoints of the records told were stored
-told_same : (table : List Call) (asked : Settings) (course : Course) → (course.told ≡ []) ⊎ DoesTruly table asked course → (before : Slots) → AreSameOrTrue table course.bytes asked.budget before (told_slots asked course before)
+-- the slots once the checkpoints of these first steps were stored
+begun_same : (table : List Call) (asked : Settings) (course : Course) (told : List SessionStep) → DoesTruly table asked course told → (before : Slots) → AreSameOrTrue table course.bytes asked.budget before (slots_after 2 (sha256 course.bytes) asked.budget course.turn told (begin_with asked.command before))
+begun_same table asked course told h before =
+    steps_same table course.bytes asked.budget course.needs h.ground h.met told course.turn before (begin_with asked.command before) (begin_same table course.bytes asked.budget asked.command before) h.steps
+
+-- and of the records told
+told_same : (table : List Call) (asked : Settings) (course : Course) → (course.told ≡ []) ⊎ DoesTruly table asked course course.told → (before : Slots) → AreSameOrTrue table course.bytes asked.budget before (told_slots asked course before)
 told_same table asked course (inl e) before =
     subst (λ (l : List SessionStep). AreSameOrTrue table course.bytes asked.budget before (slots_after 2 (sha256 course.bytes) asked.budget course.turn l (begin_with asked.command before))) (sym e)
     (begin_same table course.bytes asked.budget asked.command before)
-told_same table asked course (inr h) before =
-    steps_same table course.bytes asked.budget course.needs h.ground h.met course.told course.turn before (begin_with asked.command before) (begin_same table course.bytes asked.budget asked.command before) h.steps
+told_same table asked course (inr h) before = begun_same table asked course course.told h before
 
 -- what a session did with its slots
-data Did (asked : Settings) (course : Course) (old new : Outside) : Type 0 where
-  nothing : new.vault ≡ old.vault → Did asked course old new
-  stored : Keeps asked course old.vault new.vault → Did asked course old new
-  failed : HasRisen old.vault_faults new.vault_faults → course.told ≡ [] → FailsFirst asked.command old.vault new.vault → Did asked course old new
-  tore : HasRisen old.vault_faults new.vault_faults → Tears asked course old.vault new.vault → Did asked course old new
+data Did (ending : Ending) (asked : Settings) (course : Course) (old new : Outside) : Type 0 where
+  nothing : new.vault ≡ old.vault → Did ending asked course old new
+  stored : Keeps asked course old.vault new.vault → Did ending asked course old new
+  failed : HasRisen old.vault_faults new.vault_faults → course.told ≡ [] → FailsFirst asked.command old.vault new.vault → Did ending asked course old new
+  tore : (told : ℕ) → ending ≡ vault_fault told → HasRisen old.vault_faults new.vault_faults → IsStarted asked.command asked old.vault course → Tears asked course old.vault new.vault → Did ending asked course old new
 
-did_so : (ending : Ending) (asked : Settings) (course : Course) (old new : Outside) → StoresIfKept ending asked course old.vault new.vault → Counts ending old new → Did asked course old new
+did_so : (ending : Ending) (asked : Settings) (course : Course) (old new : Outside) → StoresIfKept ending asked course old.vault new.vault → Counts ending old new → Did ending asked course old new
 did_so (done n) asked course old new h c = Did.stored h
 did_so (usage i) asked course old new h c = Did.nothing h
 did_so (paused query blocks) asked course old new h c = Did.stored h
 did_so source_fault asked course old new h c = Did.nothing h
 did_so sink_fault asked course old new h c = Did.stored h
 did_so (vault_fault told) asked course old new (inl h) c = Did.failed c.2 h.0 h.1
-did_so (vault_fault told) asked course old new (inr h) c = Did.tore c.2 h.3
+did_so (vault_fault told) asked course old new (inr h) c = Did.tore told refl c.2 h.0 h.3
 did_so (no_memory told) asked course old new (inl h) c = Did.nothing h.1
 did_so (no_memory told) asked course old new (inr h) c = Did.stored h.1
 did_so no_checkpoint asked course old new h c = Did.nothing h
@@ -197,21 +215,21 @@ module _ (table : List Call) (asked : Settings) (course : Course) (old new : Out
   fails_same check is silent risen h = absurd h
   fails_same summary is silent risen h = absurd h
 
-  stores_so : (course.told ≡ []) ⊎ DoesTruly table asked course → Did asked course old new → StoresTruly table asked course old new
-  stores_so truly (Did.nothing same) = same_stores same
-  stores_so truly (Did.stored h) =
+  stores_so : (ending : Ending) → (course.told ≡ []) ⊎ DoesTruly table asked course course.told → Did ending asked course old new → StoresTruly table asked course old new
+  stores_so ending truly (Did.nothing same) = same_stores same
+  stores_so ending truly (Did.stored h) =
       WhereTold-map old.vault new.vault _ _ (λ before after is. inl (subst (AreSameOrTrue table course.bytes asked.budget before) (sym is) (told_same table asked course truly before))) h
-  stores_so truly (Did.failed risen silent h) = fails_same asked.command refl silent risen h
-  stores_so truly (Did.tore risen h) =
+  stores_so ending truly (Did.failed risen silent h) = fails_same asked.command refl silent risen h
+  stores_so ending truly (Did.tore told ends risen started h) =
       WhereTold-map old.vault new.vault _ _ (λ before after is. inr (risen, inl (beside table course.bytes asked.budget (next_slot course) is.0 before (told_slots asked course before) after (told_same table asked course truly before) is.1))) h
 
 -- ---- the slots after a session of `run` that emptied them
 
-told_afresh : (table : List Call) (asked : Settings) (course : Course) → (course.told ≡ []) ⊎ DoesTruly table asked course → asked.command ≡ run → (before : Slots) → AreSameOrTrue table course.bytes asked.budget empty_slots (told_slots asked course before)
+told_afresh : (table : List Call) (asked : Settings) (course : Course) → (course.told ≡ []) ⊎ DoesTruly table asked course course.told → asked.command ≡ run → (before : Slots) → AreSameOrTrue table course.bytes asked.budget empty_slots (told_slots asked course before)
 told_afresh table asked course truly runs before =
     subst (λ (c : Command). AreSameOrTrue table course.bytes asked.budget empty_slots (slots_after 2 (sha256 course.bytes) asked.budget course.turn course.told (begin_with c before))) (sym runs) (by truly)
   where
-    by : (course.told ≡ []) ⊎ DoesTruly table asked course → AreSameOrTrue table course.bytes asked.budget empty_slots (slots_after 2 (sha256 course.bytes) asked.budget course.turn course.told empty_slots)
+    by : (course.told ≡ []) ⊎ DoesTruly table asked course course.told → AreSameOrTrue table course.bytes asked.budget empty_slots (slots_after 2 (sha256 course.bytes) asked.budget course.turn course.told empty_slots)
     by (inl e) = subst (λ (l : List SessionStep). AreSameOrTrue table course.bytes asked.budget empty_slots (slots_after 2 (sha256 course.bytes) asked.budget course.turn l empty_slots)) (sym e) (same_slots table course.bytes asked.budget empty_slots)
     by (inr h) = steps_same table course.bytes asked.budget course.needs h.ground h.met course.told course.turn empty_slots empty_slots (same_slots table course.bytes asked.budget empty_slots) h.steps
 
@@ -221,7 +239,7 @@ empty_or_true Zero table bytes budget after (inr h) = h
 empty_or_true One table bytes budget after (inl e) = inl e
 empty_or_true One table bytes budget after (inr h) = h
 
-module _ (table : List Call) (asked : Settings) (course : Course) (old new : Outside) (truly : (course.told ≡ []) ⊎ DoesTruly table asked course) (runs : asked.command ≡ run) where
+module _ (table : List Call) (asked : Settings) (course : Course) (old new : Outside) (truly : (course.told ≡ []) ⊎ DoesTruly table asked course course.told) (runs : asked.command ≡ run) where
   kept_afresh : Keeps asked course old.vault new.vault → StoresAfresh table asked course old new
   kept_afresh h = WhereTold-map old.vault new.vault _ _ (λ before after is. inl (λ slot.
       empty_or_true slot table course.bytes asked.budget after (subst (AreSameOrTrue table course.bytes asked.budget empty_slots) (sym is) (told_afresh table asked course truly runs before) slot))) h
@@ -254,12 +272,12 @@ module _ (table : List Call) (asked : Settings) (course : Course) (old new : Out
 
 -- ---- sessions
 
-truly_so : (table : List Call) (args : List (List ℕ)) (old new : Outside) (ending : Ending) (s : IsSession table args old new ending) → IsGrounded table s.asked s.course → StartsTruly table s.asked.command s.asked old.vault s.course → (s.course.told ≡ []) ⊎ DoesTruly table s.asked s.course
+truly_so : (table : List Call) (args : List (List ℕ)) (old new : Outside) (ending : Ending) (s : IsSession table args old new ending) → IsGrounded table s.asked s.course → StartsTruly table s.asked.command s.asked old.vault s.course → (s.course.told ≡ []) ⊎ DoesTruly table s.asked s.course s.course.told
 truly_so table args old new ending s ground truly = does_truly table ending s.asked old.vault s.course s.asked.command truly s.started s.met s.ended s.rounds (told_long table args old new ending s) ground
 
 pub grounded_stores : (table : List Call) (args : List (List ℕ)) (old new : Outside) (ending : Ending) (s : IsSession table args old new ending) → IsGrounded table s.asked s.course → StartsTruly table s.asked.command s.asked old.vault s.course → s.asked.keep ≡ true → StoresTruly table s.asked s.course old new
 grounded_stores table args old new ending s ground truly keeps =
-    stores_so table s.asked s.course old new (truly_so table args old new ending s ground truly) (did_so ending s.asked s.course old new (kept_stores s.asked.keep ending s.asked s.course old.vault new.vault keeps s.stored) s.counted)
+    stores_so table s.asked s.course old new ending (truly_so table args old new ending s ground truly) (did_so ending s.asked s.course old new (kept_stores s.asked.keep ending s.asked s.course old.vault new.vault keeps s.stored) s.counted)
 
 pub grounded_afresh : (table : List Call) (args : List (List ℕ)) (old new : Outside) (ending : Ending) (s : IsSession table args old new ending) → IsGrounded table s.asked s.course → s.asked.command ≡ run → s.asked.keep ≡ true → HasBegun ending s.course → StoresAfresh table s.asked s.course old new
 grounded_afresh table args old new ending s ground runs keeps begun =
@@ -270,7 +288,7 @@ some_told : (before : List SessionStep) (s : SessionStep) → before ++ s ∷ []
 some_told [] s e = (let f = e in cc)
 some_told (r ∷ before) s e = (let f = e in cc)
 
-early_so : (table : List Call) (asked : Settings) (course : Course) (before : List SessionStep) (last : SessionStep) → course.told ≡ before ++ last ∷ [] → DoesTruly table asked course → turn_after course.turn before < 2 ^ 58
+early_so : (table : List Call) (asked : Settings) (course : Course) (before : List SessionStep) (last : SessionStep) → course.told ≡ before ++ last ∷ [] → DoesTruly table asked course course.told → turn_after course.turn before < 2 ^ 58
 unfolding point_of
 early_so table asked course before last told h =
     let d = sha256 course.bytes in
@@ -281,7 +299,7 @@ early_so table asked course before last told h =
 pub grounded_early : (table : List Call) (args : List (List ℕ)) (old new : Outside) (ending : Ending) (s : IsSession table args old new ending) → IsGrounded table s.asked s.course → StartsTruly table s.asked.command s.asked old.vault s.course
     → (before : List SessionStep) (last : SessionStep) → s.course.told ≡ before ++ last ∷ [] → turn_after s.course.turn before < 2 ^ 58
 grounded_early table args old new ending s ground truly before last told =
-    ⊎_elim (λ (e : s.course.told ≡ []). absurd (some_told before last (sym told ∙ e))) (λ (h : DoesTruly table s.asked s.course). early_so table s.asked s.course before last told h) (truly_so table args old new ending s ground truly)
+    ⊎_elim (λ (e : s.course.told ≡ []). absurd (some_told before last (sym told ∙ e))) (λ (h : DoesTruly table s.asked s.course s.course.told). early_so table s.asked s.course before last told h) (truly_so table args old new ending s ground truly)
 
 pub stores_truly : (table : List Call) (args : List (List ℕ)) (old new : Outside) (ending : Ending) (s : IsSession table args old new ending) → IsGround table s.course.bytes s.asked.budget → StartsTruly table s.asked.command s.asked old.vault s.course → s.asked.keep ≡ true → StoresTruly table s.asked s.course old new
 stores_truly table args old new ending s ground truly keeps = grounded_stores table args old new ending s (inr ground) truly keeps
@@ -348,7 +366,7 @@ was_told (Some held) new before after P is now (left, told, h) =
     let then_ : left ≡ after = (let e = sym told ∙ now in cc) in
     subst (λ (b : Slots). P b after) same (subst (λ (a : Slots). P held a) then_ h)
 
-module _ (table : List Call) (asked : Settings) (course : Course) (old new : Outside) (before after : Slots) (is : old.vault ≡ Some before) (now : new.vault ≡ Some after) (all : AreTrue table course.bytes asked.budget before) where
+module _ (table : List Call) (ending : Ending) (asked : Settings) (course : Course) (old new : Outside) (before after : Slots) (is : old.vault ≡ Some before) (now : new.vault ≡ Some after) (all : AreTrue table course.bytes asked.budget before) where
   fails_true : (c : Command) → asked.command ≡ c → course.told ≡ [] → FailsFirst c old.vault new.vault → (asked.command ≡ run → course.told ≡ [] → EmptiesSo before after) → AreTrueSlots table course.bytes asked.budget after
   fails_true run runs silent h so = half_true table course.bytes asked.budget before after all (was_told old.vault new.vault before after AreHalfEmptied is now h) (so runs silent)
   fails_true resume resumes silent h so = unmoved h
@@ -358,16 +376,26 @@ module _ (table : List Call) (asked : Settings) (course : Course) (old new : Out
   fails_true check checks silent h so = absurd h
   fails_true summary sums silent h so = absurd h
 
-  did_true : (course.told ≡ []) ⊎ DoesTruly table asked course → Did asked course old new → TearsSo asked course before after → (asked.command ≡ run → course.told ≡ [] → EmptiesSo before after) → AreTrueSlots table course.bytes asked.budget after
-  did_true truly (Did.nothing e) tears so = let same : before ≡ after = (let f = sym is ∙ sym e ∙ now in cc) in subst (AreTrueSlots table course.bytes asked.budget) same (all Zero, all One)
-  did_true truly (Did.stored h) tears so =
+  -- what is known of the steps told and the next one, if a store failed
+  abbrev IsNextTrue : Type 0
+  IsNextTrue = (told : ℕ) → ending ≡ vault_fault told → IsStarted asked.command asked old.vault course → (s : SessionStep) (rest : List SessionStep) → course.left ≡ s ∷ rest → DoesTruly table asked course (course.told ++ s ∷ [])
+
+  did_true : (course.told ≡ []) ⊎ DoesTruly table asked course course.told → IsNextTrue → Did ending asked course old new → TearsSo asked course before after → (asked.command ≡ run → course.told ≡ [] → EmptiesSo before after) → AreTrueSlots table course.bytes asked.budget after
+  did_true truly next (Did.nothing e) tears so = let same : before ≡ after = (let f = sym is ∙ sym e ∙ now in cc) in subst (AreTrueSlots table course.bytes asked.budget) same (all Zero, all One)
+  did_true truly next (Did.stored h) tears so =
       let stored : after ≡ told_slots asked course before = was_told old.vault new.vault before after (λ b a. a ≡ told_slots asked course b) is now h in
       same_true table course.bytes asked.budget before after all (subst (AreSameOrTrue table course.bytes asked.budget before) (sym stored) (told_same table asked course truly before))
-  did_true truly (Did.failed risen silent h) tears so = fails_true asked.command refl silent h so
-  did_true truly (Did.tore risen h) tears so =
+  did_true truly next (Did.failed risen silent h) tears so = fails_true asked.command refl silent h so
+  did_true truly next (Did.tore told ends risen started h) tears so =
       let torn = was_told old.vault new.vault before after (λ b a. IsTorn (next_slot course) (told_slots asked course b) a) is now h in
       let mid : AreTrueSlots table course.bytes asked.budget (told_slots asked course before) = same_true table course.bytes asked.budget before (told_slots asked course before) all (told_same table asked course truly before) in
-      put_true table course.bytes asked.budget (next_slot course) torn.0 (told_slots asked course before) after (each table course.bytes asked.budget (told_slots asked course before) mid) torn.1 (tears torn.0 torn.1)
+      ⊎_elim
+      (λ (left : IsLeft (in_slot (next_slot course) (told_slots asked course before)) torn.0).
+      put_true table course.bytes asked.budget (next_slot course) torn.0 (told_slots asked course before) after (each table course.bytes asked.budget (told_slots asked course before) mid) torn.1 left)
+      (λ (given : IsNextCheckpoint asked course torn.0).
+      same_true table course.bytes asked.budget before after all
+      (subst (AreSameOrTrue table course.bytes asked.budget before) (sym (next_stored asked course before after torn.0 given.0 torn.1 given.3)) (begun_same table asked course (course.told ++ given.0 ∷ []) (next told ends started given.0 given.1 given.2) before)))
+      (tears torn.0 torn.1)
 
 starts_over : (table : List Call) (c : Command) (asked : Settings) (held : Option Slots) (course : Course) (slots : Slots) → IsTrue (keeps c) → held ≡ Some slots → AreTrueSlots table course.bytes asked.budget slots → StartsTruly table c asked held course
 starts_over table run asked held course slots may told both = tt
@@ -375,17 +403,18 @@ starts_over table resume asked held course slots may told both = taken_truly tab
 starts_over table check asked held course slots may told both = absurd (let e = may in cc)
 starts_over table summary asked held course slots may told both = absurd (let e = may in cc)
 
-by_keep : (keep : Bool) (ending : Ending) (asked : Settings) (course : Course) (old new : Outside) → Stores keep ending asked course old.vault new.vault → Counts ending old new → Did asked course old new
+by_keep : (keep : Bool) (ending : Ending) (asked : Settings) (course : Course) (old new : Outside) → Stores keep ending asked course old.vault new.vault → Counts ending old new → Did ending asked course old new
 by_keep true ending asked course old new h c = did_so ending asked course old new h c
 by_keep false ending asked course old new h c = Did.nothing h
 
-pub grounded_stay : (table : List Call) (args : List (List ℕ)) (old new : Outside) (ending : Ending) (s : IsSession table args old new ending) (before after : Slots) → IsGrounded table s.asked s.course → IsTrue (keeps s.asked.command) → old.vault ≡ Some before → new.vault ≡ Some after
+pub grounded_stay : (table : List Call) (args : List (List ℕ)) (old new : Outside) (ending : Ending) (s : IsSession table args old new ending) (before after : Slots) → IsGrounded table s.asked s.course → ((told : ℕ) → ending ≡ vault_fault told → IsGround table s.course.bytes s.asked.budget) → IsTrue (keeps s.asked.command) → old.vault ≡ Some before → new.vault ≡ Some after
     → AreTrueSlots table s.course.bytes s.asked.budget before → TearsSo s.asked s.course before after → (s.asked.command ≡ run → s.course.told ≡ [] → EmptiesSo before after) → AreTrueSlots table s.course.bytes s.asked.budget after
-grounded_stay table args old new ending s before after ground may is now both tears so =
+grounded_stay table args old new ending s before after ground torn may is now both tears so =
     let truly = starts_over table s.asked.command s.asked old.vault s.course before may is both in
-    did_true table s.asked s.course old new before after is now (each table s.course.bytes s.asked.budget before both) (truly_so table args old new ending s ground truly)
+    did_true table ending s.asked s.course old new before after is now (each table s.course.bytes s.asked.budget before both) (truly_so table args old new ending s ground truly)
+    (λ told ends started step rest left. next_truly table ending s.asked old.vault s.course s.asked.command truly s.started started s.met s.rounds (rounds_long table args old new ending s (λ i refused. (let e = sym ends ∙ refused in cc))) (torn told ends) step rest left)
     (by_keep s.asked.keep ending s.asked s.course old new s.stored s.counted) tears so
 
 pub true_slots_stay : (table : List Call) (args : List (List ℕ)) (old new : Outside) (ending : Ending) (s : IsSession table args old new ending) (before after : Slots) → IsGround table s.course.bytes s.asked.budget → IsTrue (keeps s.asked.command) → old.vault ≡ Some before → new.vault ≡ Some after
     → AreTrueSlots table s.course.bytes s.asked.budget before → TearsSo s.asked s.course before after → (s.asked.command ≡ run → s.course.told ≡ [] → EmptiesSo before after) → AreTrueSlots table s.course.bytes s.asked.budget after
-true_slots_stay table args old new ending s before after ground may is now both tears so = grounded_stay table args old new ending s before after (inr ground) may is now both tears so
+true_slots_stay table args old new ending s before after ground may is now both tears so = grounded_stay table args old new ending s before after (inr ground) (λ told ends. ground) may is now both tears so

@@ -8,7 +8,9 @@
 --   Chain version table bytes budget slots                  the slots after a chain of sessions: a `run` that emptied them, and then
 --                                        any number of `resume`. Sessions that wrote version 1 come before those that write version 2
 --   HasBegun ending course               a `run` emptied the slots: it ended with its text or paused, or it told a record
---   TearsSo asked course before after    a store of a session that failed left in its slot what such a store may leave
+--   IsNextCheckpoint asked course held   these bytes are the checkpoint of the next step, the first of those that were to come
+--   TearsSo asked course before after    a store of a session that failed left in its slot what was there, bytes that are no
+--                                        checkpoint, or all of the bytes that it was given: the checkpoint of the next step
 --   GoesOn table bytes budget new        the vault tells slots that are those of a chain
 --   Rises C most blocks states           the states of a search rise, are best words, and have no more blocks than this
 --   EndsAtAnswer d C budget longest slice s      its rounds do so up to the blocks of the answer, and end at it unless the slice stops them
@@ -28,7 +30,7 @@ use Rattle.lc_session_rules.specs.Options.{Settings}
 use Rattle.lc_session_rules.specs.Session.{Course, told_slots}
 use Rattle.lc_session_rules.specs.Endings.{Ending, done, usage, paused, source_fault, sink_fault, vault_fault, no_memory, no_checkpoint, damaged_checkpoint, other_script, rejected, too_long, unfit}
 use Rattle.lc_session_rules.specs.Needs.{MeetsFirst, OneScript, OneStep}
-use Rattle.lc_session_rules.specs.Slots.{slot_of, next_turn, turn_after, slots_after, chosen, start_in, IsTrueCheckpoint, AreTrueSlots}
+use Rattle.lc_session_rules.specs.Slots.{slot_of, next_turn, turn_after, stored_bytes, slots_after, chosen, start_in, IsTrueCheckpoint, AreTrueSlots}
 
 abbrev pub IsLeft : List ℕ → List ℕ → Type 0
 IsLeft before after = (after ≡ before) ⊎ ((r : CheckpointRefusal) × (checkpoint_in after ≡ refused r))
@@ -59,10 +61,15 @@ pub data Chain (table : List Call) (bytes : List ℕ) (budget : ℕ) : ℕ → S
   resumed : (version later : ℕ) (needs : List Matrix) (p : Checkpoint) (told : List SessionStep) (before slots : Slots) → Chain table bytes budget version before → version ≤ later → chosen before ≡ Some p → Goes later table bytes budget needs (start_in (divisor_in later) needs p) told
       → Leaves later (sha256 bytes) budget (next_turn p.turn) told before slots → Chain table bytes budget later slots
 
--- a store of a session that failed left in its slot what such a store may leave
+-- the checkpoint of the next step: what a session gives to its next store
+abbrev pub IsNextCheckpoint : Settings → Course → List ℕ → Type 0
+IsNextCheckpoint asked course held = (s : SessionStep) × (rest : List SessionStep) × (course.left ≡ s ∷ rest) × (held ≡ stored_bytes 2 (sha256 course.bytes) asked.budget (turn_after course.turn course.told) s)
+
+-- a store of a session that failed left in its slot what such a store may leave, or all of the bytes that it was given
 abbrev pub TearsSo : Settings → Course → Slots → Slots → Type 0
 TearsSo asked course before after =
-    (held : List ℕ) → after ≡ put (slot_of (turn_after course.turn course.told)) held (told_slots asked course before) → IsLeft (in_slot (slot_of (turn_after course.turn course.told)) (told_slots asked course before)) held
+    (held : List ℕ) → after ≡ put (slot_of (turn_after course.turn course.told)) held (told_slots asked course before)
+    → IsLeft (in_slot (slot_of (turn_after course.turn course.told)) (told_slots asked course before)) held ⊎ IsNextCheckpoint asked course held
 
 -- a `run` that emptied the slots, as its ending or its records show
 abbrev pub HasBegun : Ending → Course → Type 0

@@ -163,8 +163,8 @@ pub fn slots_hold_the_last_checkpoints()
 /// failed: the slot of the turn after the last record told, or the one that `run` could not empty. After a session of `run` that
 /// emptied the slots (it finished or paused, or the sink failed, or it told a record) each is empty or holds a true checkpoint, but
 /// for that of the turn after the last record told, if its store failed. A true checkpoint has a turn below 2^58, and so has each
-/// record told. True slots stay true slots, whatever the command and the ending, if a store that failed left what was there or bytes
-/// that are no checkpoint.
+/// record told. True slots stay true slots, whatever the command and the ending, if a store that failed left what was there, bytes
+/// that are no checkpoint, or all of the bytes that it was given: the checkpoint of the next step.
 pub fn stored_slots_hold_true_checkpoints()
     ensures stored { (table : List Call) (args : List (List ℕ)) (old new : Outside) (ending : Ending)
         (s : IsSession table args old new ending) → IsGround table s.course.bytes s.asked.budget →
@@ -228,8 +228,8 @@ pub fn chains_leave_true_slots()
 
 /// Sessions that keep their checkpoints make up chains. A `run` begins one once it emptied the slots, as it
 /// did if it ended with its text, paused or told a record. A `resume` goes on with one, however it ends. If
-/// a store failed, it left in its slot what such a store may leave: what was there, or bytes that no seal
-/// fits.
+/// a store failed, it left in its slot what was there, bytes that are no checkpoint, or all of the bytes that
+/// it was given: then the session stored one step more than it told.
 pub fn sessions_make_up_chains()
     ensures begins { (table : List Call) (args : List (List ℕ)) (old new : Outside) (ending : Ending)
         (s : IsSession table args old new ending) (before : Slots) → s.asked.command ≡ run → s.asked.keep ≡ true →
