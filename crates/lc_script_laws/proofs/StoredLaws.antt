@@ -11,14 +11,15 @@ use Rattle.std.proofs.Common.{◌≡◌, ◌⊎◌, inl, inr, ◌≤◌, ◌<◌
 use Rattle.std.specs.Prelude.{IsTrue}
 use Rattle.lc_enumeration.specs.Records.{SessionStep}
 use Rattle.lc_formats.specs.Checkpoint.{Checkpoint}
+use Rattle.lc_io.specs.Outside.{HasRisen}
 use Rattle.lc_io.specs.Vaults.{Slots}
 use Rattle.lc_calls.specs.Built.{built_calls}
 use Rattle.lc_session_rules.specs.Options.{Command, run, resume, check, summary, Settings, Options, settings, usage as refuses, options, all_options}
 use Rattle.lc_session_rules.specs.Slots.{turn_after, IsTrueCheckpoint, AreTrueSlots}
 use Rattle.lc_session_rules.specs.Endings.{Ending, done, usage, paused, source_fault, sink_fault, vault_fault, no_memory, no_checkpoint, damaged_checkpoint, other_script, rejected, too_long, unfit}
 use Rattle.lc_session_rules.specs.Session.{Outside, Course, most_bytes, keeps, Accepts, ReadsScript, Reads, Ends, IsSession}
-use Rattle.lc_session_rules.specs.Promises.{StartsTruly, StoresTruly, StoresAfresh, EmptiesSo}
-use Rattle.lc_session_rules.specs.Chain.{IsGround, HasBegun, TearsSo}
+use Rattle.lc_session_rules.specs.Promises.{StartsTruly, StoresTruly, StoresAfresh, FailsSo}
+use Rattle.lc_session_rules.specs.Chain.{IsGround, HasBegun}
 use Rattle.lc_session_rules.proofs.GroundLaws as chains
 use Rattle.lc_session_rules.proofs.StoredTruly.{IsGrounded, grounded_stores, grounded_afresh, grounded_early, grounded_stay}
 use Rattle.lc_script_laws.proofs.GroundLaws.{script_is_ground}
@@ -79,11 +80,11 @@ torn_ground args (refuses i) asked old new ending course is h short told e = abs
 torn_ground args (settings s) asked old new ending course is h short told e = accepted_ground args s asked course is h.0 short
 
 pub slots_stay : (args : List (List ℕ)) (old new : Outside) (ending : Ending) (s : IsSession built_calls args old new ending) (before after : Slots) → IsTrue (keeps s.asked.command) → old.vault ≡ Some before → new.vault ≡ Some after
-    → AreTrueSlots built_calls s.course.bytes s.asked.budget before → TearsSo s.asked s.course before after → (s.asked.command ≡ run → s.course.told ≡ [] → EmptiesSo before after) → AreTrueSlots built_calls s.course.bytes s.asked.budget after
-slots_stay args old new ending s before after may is now both tears so =
+    → AreTrueSlots built_calls s.course.bytes s.asked.budget before → (HasRisen old.vault_faults new.vault_faults → FailsSo s.asked s.course before after) → AreTrueSlots built_calls s.course.bytes s.asked.budget after
+slots_stay args old new ending s before after may is now both so =
     let grounded = grounded_by args (options all_options args) s.asked old new ending s.course refl s.accepted s.ended (reads_if_kept s.asked.command ending s.asked old.source new.source s.course may s.read s.ended) in
     grounded_stay built_calls args old new ending s before after grounded
-    (λ told e. torn_ground args (options all_options args) s.asked old new ending s.course refl s.accepted (read_torn s.asked.command ending old.source new.source s.course may s.read told e) told e) may is now both tears so
+    (λ told e. torn_ground args (options all_options args) s.asked old new ending s.course refl s.accepted (read_torn s.asked.command ending old.source new.source s.course may s.read told e) told e) may is now both so
 
 is_grounded : (args : List (List ℕ)) (old new : Outside) (ending : Ending) (s : IsSession built_calls args old new ending) → StartsTruly built_calls s.asked.command s.asked old.vault s.course → IsGrounded built_calls s.asked s.course
 is_grounded args old new ending s truly =

@@ -6,6 +6,7 @@ ghost use Rattle.lc_algebra.specs.Matrix.{Matrix};
 ghost use Rattle.lc_enumeration.specs.Truth.{AnswerHolds};
 ghost use Rattle.lc_enumeration.specs.Records.{SessionStep};
 ghost use Rattle.lc_formats.specs.Checkpoint.{Checkpoint};
+ghost use Rattle.lc_io.specs.Outside.{HasRisen};
 ghost use Rattle.lc_io.specs.Vaults.{Slots};
 ghost use Rattle.lc_language.specs.declared.Call.{Call};
 ghost use Rattle.lc_language.specs.Query.{QueryKind, distance, by_levels, by_scan, query_line, distribution_line, near_line};
@@ -19,8 +20,8 @@ ghost use Rattle.lc_session_rules.specs.Nears.{NearQuery, AreNears, NearsHold};
 ghost use Rattle.lc_session_rules.specs.Slots.{turn_after, IsTrueCheckpoint, AreTrueSlots};
 ghost use Rattle.lc_session_rules.specs.Endings.{Ending, done};
 ghost use Rattle.lc_session_rules.specs.Session.{Outside, most_bytes, keeps, IsSession};
-ghost use Rattle.lc_session_rules.specs.Promises.{PrintsText, StartsTruly, StoresTruly, StoresAfresh, EmptiesSo};
-ghost use Rattle.lc_session_rules.specs.Chain.{Chain, IsGround, HasBegun, TearsSo};
+ghost use Rattle.lc_session_rules.specs.Promises.{PrintsText, StartsTruly, StoresTruly, StoresAfresh, FailsSo};
+ghost use Rattle.lc_session_rules.specs.Chain.{Chain, IsGround, HasBegun};
 ghost use Rattle.lc_certify.specs.Accepted.{SaysNone, IsAcceptedFor};
 ghost use Rattle.lc_script_laws.specs.Certified.{IsReached, IsFormQuery, IsCertified};
 ghost use Rattle.lc_script_laws.specs.Counted.{AreCounted};
@@ -149,8 +150,8 @@ pub fn chains_print_the_text()
     ensures stay { (args : List (List ℕ)) (old new : Outside) (ending : Ending)
         (s : IsSession built_calls args old new ending) (before after : Slots) → IsTrue (keeps s.asked.command) →
         old.vault ≡ Some before → new.vault ≡ Some after →
-        AreTrueSlots built_calls s.course.bytes s.asked.budget before → TearsSo s.asked s.course before after →
-        (s.asked.command ≡ run → s.course.told ≡ [] → EmptiesSo before after) →
+        AreTrueSlots built_calls s.course.bytes s.asked.budget before →
+        (HasRisen old.vault_faults new.vault_faults → FailsSo s.asked s.course before after) →
         AreTrueSlots built_calls s.course.bytes s.asked.budget after }
     ensures resume { (args : List (List ℕ)) (old new : Outside) (n : ℕ)
         (s : IsSession built_calls args old new (done n)) (version : ℕ) (slots : Slots) → s.asked.command ≡ resume →

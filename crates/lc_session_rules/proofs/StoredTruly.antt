@@ -22,7 +22,7 @@ use Rattle.lc_formats.specs.Truth.{divisor_in, IsTrueFor, start_of}
 use Rattle.lc_io.specs.declared.vault.Slot.{Slot}
 use Rattle.lc_io.specs.declared.vault.Slot.TheVariants.{Zero, One}
 use Rattle.lc_io.specs.Outside.{HasRisen}
-use Rattle.lc_io.specs.Vaults.{Slots, empty_slots, in_slot, other, put, WhereTold, IsTorn}
+use Rattle.lc_io.specs.Vaults.{Slots, empty_slots, in_slot, other, put, WhereTold}
 use Rattle.lc_io.proofs.SlotLaws.{WhereTold-map, WhereTold-refl}
 use Rattle.lc_language.specs.declared.Call.{Call}
 use Rattle.lc_session_rules.specs.Options.{Command, run, resume, check, summary, Settings}
@@ -30,8 +30,8 @@ use Rattle.lc_session_rules.specs.Needs.{MeetsFirst}
 use Rattle.lc_session_rules.specs.Slots.{slot_of, next_turn, turn_after, point_of, stored_bytes, slots_after, takes, start_in, IsTrueCheckpoint, IsTornOr, IsEmptyOrTrue, AreTrueSlots}
 use Rattle.lc_session_rules.specs.Endings.{Ending, done, usage, paused, source_fault, sink_fault, vault_fault, no_memory, no_checkpoint, damaged_checkpoint, other_script, rejected, too_long, unfit}
 use Rattle.lc_session_rules.specs.Session.{Outside, Course, rounds_of, Finds, GoesOnFrom, IsResumed, IsFresh, Starts, Meets, Ends, begin_with, told_slots, Keeps, Tears, AreHalfEmptied, FailsFirst, IsStarted, StoresIfKept, Stores, Counts, keeps, IsSession}
-use Rattle.lc_session_rules.specs.Promises.{StartsTruly, IsSameOrTrue, next_slot, StoresTruly, StoresAfresh, EmptiesSo}
-use Rattle.lc_session_rules.specs.Chain.{IsLeft, IsGround, HasBegun, IsNextCheckpoint, TearsSo}
+use Rattle.lc_session_rules.specs.Promises.{StartsTruly, IsSameOrTrue, next_slot, StoresTruly, StoresAfresh, FailsSo}
+use Rattle.lc_session_rules.specs.Chain.{IsLeft, IsGround, HasBegun}
 use Rattle.lc_session_rules.proofs.TrueSteps.{AreTrueSteps, true_front}
 use Rattle.lc_session_rules.proofs.GroundLaws.{true_turn}
 use Rattle.lc_session_rules.proofs.ChainLaws.{begun_truly, resumed_start}
@@ -179,7 +179,7 @@ told_same table asked course (inr h) before = begun_same table asked course cour
 data Did (ending : Ending) (asked : Settings) (course : Course) (old new : Outside) : Type 0 where
   nothing : new.vault ≡ old.vault → Did ending asked course old new
   stored : Keeps asked course old.vault new.vault → Did ending asked course old new
-  failed : HasRisen old.vault_faults new.vault_faults → course.told ≡ [] → FailsFirst asked.command old.vault new.vault → Did ending asked course old new
+  failed : (told : ℕ) → ending ≡ vault_fault told → HasRisen old.vault_faults new.vault_faults → course.told ≡ [] → FailsFirst asked.command old.vault new.vault → Did ending asked course old new
   tore : (told : ℕ) → ending ≡ vault_fault told → HasRisen old.vault_faults new.vault_faults → IsStarted asked.command asked old.vault course → Tears asked course old.vault new.vault → Did ending asked course old new
 
 did_so : (ending : Ending) (asked : Settings) (course : Course) (old new : Outside) → StoresIfKept ending asked course old.vault new.vault → Counts ending old new → Did ending asked course old new
@@ -188,7 +188,7 @@ did_so (usage i) asked course old new h c = Did.nothing h
 did_so (paused query blocks) asked course old new h c = Did.stored h
 did_so source_fault asked course old new h c = Did.nothing h
 did_so sink_fault asked course old new h c = Did.stored h
-did_so (vault_fault told) asked course old new (inl h) c = Did.failed c.2 h.0 h.1
+did_so (vault_fault told) asked course old new (inl h) c = Did.failed told refl c.2 h.0 h.1
 did_so (vault_fault told) asked course old new (inr h) c = Did.tore told refl c.2 h.0 h.3
 did_so (no_memory told) asked course old new (inl h) c = Did.nothing h.1
 did_so (no_memory told) asked course old new (inr h) c = Did.stored h.1
@@ -219,7 +219,7 @@ module _ (table : List Call) (asked : Settings) (course : Course) (old new : Out
   stores_so ending truly (Did.nothing same) = same_stores same
   stores_so ending truly (Did.stored h) =
       WhereTold-map old.vault new.vault _ _ (λ before after is. inl (subst (AreSameOrTrue table course.bytes asked.budget before) (sym is) (told_same table asked course truly before))) h
-  stores_so ending truly (Did.failed risen silent h) = fails_same asked.command refl silent risen h
+  stores_so ending truly (Did.failed told ends risen silent h) = fails_same asked.command refl silent risen h
   stores_so ending truly (Did.tore told ends risen started h) =
       WhereTold-map old.vault new.vault _ _ (λ before after is. inr (risen, inl (beside table course.bytes asked.budget (next_slot course) is.0 before (told_slots asked course before) after (told_same table asked course truly before) is.1))) h
 
@@ -352,9 +352,9 @@ module _ (table : List Call) (bytes : List ℕ) (budget : ℕ) where
   emptied_true Zero = unread table bytes budget Zero
   emptied_true One = unread table bytes budget One
 
-  half_true : (before after : Slots) → AreTrue table bytes budget before → AreHalfEmptied before after → EmptiesSo before after → AreTrueSlots table bytes budget after
-  half_true before after all (held, inl e) so = put_true Zero held before after all e (so.0 held e)
-  half_true before after all (held, inr e) so = rw e (unread table bytes budget Zero, torn_slot table bytes budget One before.one_slot held (all One) (so.1 held e))
+  half_true : (before after : Slots) (held : List ℕ) → AreTrue table bytes budget before → ((after ≡ put Zero held before) × IsLeft before.zero_slot held) ⊎ ((after ≡ put One held empty_slots) × IsLeft before.one_slot held) → AreTrueSlots table bytes budget after
+  half_true before after held all (inl e) = put_true Zero held before after all e.0 e.1
+  half_true before after held all (inr e) = rw e.0 (unread table bytes budget Zero, torn_slot table bytes budget One before.one_slot held (all One) e.1)
 
   same_true : (before after : Slots) → AreTrue table bytes budget before → AreSameOrTrue table bytes budget before after → AreTrueSlots table bytes budget after
   same_true before after all same = (slot_true Zero before after all (same Zero), slot_true One before after all (same One))
@@ -367,35 +367,35 @@ was_told (Some held) new before after P is now (left, told, h) =
     subst (λ (b : Slots). P b after) same (subst (λ (a : Slots). P held a) then_ h)
 
 module _ (table : List Call) (ending : Ending) (asked : Settings) (course : Course) (old new : Outside) (before after : Slots) (is : old.vault ≡ Some before) (now : new.vault ≡ Some after) (all : AreTrue table course.bytes asked.budget before) where
-  fails_true : (c : Command) → asked.command ≡ c → course.told ≡ [] → FailsFirst c old.vault new.vault → (asked.command ≡ run → course.told ≡ [] → EmptiesSo before after) → AreTrueSlots table course.bytes asked.budget after
-  fails_true run runs silent h so = half_true table course.bytes asked.budget before after all (was_told old.vault new.vault before after AreHalfEmptied is now h) (so runs silent)
-  fails_true resume resumes silent h so = unmoved h
-    where
-      unmoved : new.vault ≡ old.vault → AreTrueSlots table course.bytes asked.budget after
-      unmoved e = let same : before ≡ after = (let f = sym is ∙ sym e ∙ now in cc) in subst (AreTrueSlots table course.bytes asked.budget) same (all Zero, all One)
-  fails_true check checks silent h so = absurd h
-  fails_true summary sums silent h so = absurd h
+  unmoved : new.vault ≡ old.vault → AreTrueSlots table course.bytes asked.budget after
+  unmoved e = let same : before ≡ after = (let f = sym is ∙ sym e ∙ now in cc) in subst (AreTrueSlots table course.bytes asked.budget) same (all Zero, all One)
 
-  -- what is known of the steps told and the next one, if a store failed
+  -- what is known of the steps told and the next one, if the searches have started
   abbrev IsNextTrue : Type 0
   IsNextTrue = (told : ℕ) → ending ≡ vault_fault told → IsStarted asked.command asked old.vault course → (s : SessionStep) (rest : List SessionStep) → course.left ≡ s ∷ rest → DoesTruly table asked course (course.told ++ s ∷ [])
 
-  did_true : (course.told ≡ []) ⊎ DoesTruly table asked course course.told → IsNextTrue → Did ending asked course old new → TearsSo asked course before after → (asked.command ≡ run → course.told ≡ [] → EmptiesSo before after) → AreTrueSlots table course.bytes asked.budget after
-  did_true truly next (Did.nothing e) tears so = let same : before ≡ after = (let f = sym is ∙ sym e ∙ now in cc) in subst (AreTrueSlots table course.bytes asked.budget) same (all Zero, all One)
-  did_true truly next (Did.stored h) tears so =
+  fails_true : (course.told ≡ []) ⊎ DoesTruly table asked course course.told → ((s : SessionStep) (rest : List SessionStep) → course.left ≡ s ∷ rest → DoesTruly table asked course (course.told ++ s ∷ [])) → FailsSo asked course before after → AreTrueSlots table course.bytes asked.budget after
+  fails_true truly next (inl (held, is, inl left)) =
+      let mid = same_true table course.bytes asked.budget before (told_slots asked course before) all (told_same table asked course truly before) in
+      put_true table course.bytes asked.budget (next_slot course) held (told_slots asked course before) after (each table course.bytes asked.budget (told_slots asked course before) mid) is left
+  fails_true truly next (inl (held, is, inr (s, rest, first, given))) =
+      same_true table course.bytes asked.budget before after all
+      (subst (AreSameOrTrue table course.bytes asked.budget before) (sym (next_stored asked course before after held s is given)) (begun_same table asked course (course.told ++ s ∷ []) (next s rest first) before))
+  fails_true truly next (inr (runs, silent, (held, half))) = half_true table course.bytes asked.budget before after held all half
+
+  failed_true : (course.told ≡ []) ⊎ DoesTruly table asked course course.told → IsNextTrue → (c : Command) → asked.command ≡ c → (told : ℕ) → ending ≡ vault_fault told → FailsFirst c old.vault new.vault → FailsSo asked course before after → AreTrueSlots table course.bytes asked.budget after
+  failed_true truly next run runs told ends h so = fails_true truly (next told ends (subst (λ (c : Command). IsStarted c asked old.vault course) (sym runs) tt)) so
+  failed_true truly next resume resumes told ends h so = unmoved h
+  failed_true truly next check checks told ends h so = absurd h
+  failed_true truly next summary sums told ends h so = absurd h
+
+  did_true : (course.told ≡ []) ⊎ DoesTruly table asked course course.told → IsNextTrue → Did ending asked course old new → (HasRisen old.vault_faults new.vault_faults → FailsSo asked course before after) → AreTrueSlots table course.bytes asked.budget after
+  did_true truly next (Did.nothing e) so = unmoved e
+  did_true truly next (Did.stored h) so =
       let stored : after ≡ told_slots asked course before = was_told old.vault new.vault before after (λ b a. a ≡ told_slots asked course b) is now h in
       same_true table course.bytes asked.budget before after all (subst (AreSameOrTrue table course.bytes asked.budget before) (sym stored) (told_same table asked course truly before))
-  did_true truly next (Did.failed risen silent h) tears so = fails_true asked.command refl silent h so
-  did_true truly next (Did.tore told ends risen started h) tears so =
-      let torn = was_told old.vault new.vault before after (λ b a. IsTorn (next_slot course) (told_slots asked course b) a) is now h in
-      let mid : AreTrueSlots table course.bytes asked.budget (told_slots asked course before) = same_true table course.bytes asked.budget before (told_slots asked course before) all (told_same table asked course truly before) in
-      ⊎_elim
-      (λ (left : IsLeft (in_slot (next_slot course) (told_slots asked course before)) torn.0).
-      put_true table course.bytes asked.budget (next_slot course) torn.0 (told_slots asked course before) after (each table course.bytes asked.budget (told_slots asked course before) mid) torn.1 left)
-      (λ (given : IsNextCheckpoint asked course torn.0).
-      same_true table course.bytes asked.budget before after all
-      (subst (AreSameOrTrue table course.bytes asked.budget before) (sym (next_stored asked course before after torn.0 given.0 torn.1 given.3)) (begun_same table asked course (course.told ++ given.0 ∷ []) (next told ends started given.0 given.1 given.2) before)))
-      (tears torn.0 torn.1)
+  did_true truly next (Did.failed told ends risen silent h) so = failed_true truly next asked.command refl told ends h (so risen)
+  did_true truly next (Did.tore told ends risen started h) so = fails_true truly (next told ends started) (so risen)
 
 starts_over : (table : List Call) (c : Command) (asked : Settings) (held : Option Slots) (course : Course) (slots : Slots) → IsTrue (keeps c) → held ≡ Some slots → AreTrueSlots table course.bytes asked.budget slots → StartsTruly table c asked held course
 starts_over table run asked held course slots may told both = tt
@@ -408,13 +408,13 @@ by_keep true ending asked course old new h c = did_so ending asked course old ne
 by_keep false ending asked course old new h c = Did.nothing h
 
 pub grounded_stay : (table : List Call) (args : List (List ℕ)) (old new : Outside) (ending : Ending) (s : IsSession table args old new ending) (before after : Slots) → IsGrounded table s.asked s.course → ((told : ℕ) → ending ≡ vault_fault told → IsGround table s.course.bytes s.asked.budget) → IsTrue (keeps s.asked.command) → old.vault ≡ Some before → new.vault ≡ Some after
-    → AreTrueSlots table s.course.bytes s.asked.budget before → TearsSo s.asked s.course before after → (s.asked.command ≡ run → s.course.told ≡ [] → EmptiesSo before after) → AreTrueSlots table s.course.bytes s.asked.budget after
-grounded_stay table args old new ending s before after ground torn may is now both tears so =
+    → AreTrueSlots table s.course.bytes s.asked.budget before → (HasRisen old.vault_faults new.vault_faults → FailsSo s.asked s.course before after) → AreTrueSlots table s.course.bytes s.asked.budget after
+grounded_stay table args old new ending s before after ground torn may is now both so =
     let truly = starts_over table s.asked.command s.asked old.vault s.course before may is both in
     did_true table ending s.asked s.course old new before after is now (each table s.course.bytes s.asked.budget before both) (truly_so table args old new ending s ground truly)
     (λ told ends started step rest left. next_truly table ending s.asked old.vault s.course s.asked.command truly s.started started s.met s.rounds (rounds_long table args old new ending s (λ i refused. (let e = sym ends ∙ refused in cc))) (torn told ends) step rest left)
-    (by_keep s.asked.keep ending s.asked s.course old new s.stored s.counted) tears so
+    (by_keep s.asked.keep ending s.asked s.course old new s.stored s.counted) so
 
 pub true_slots_stay : (table : List Call) (args : List (List ℕ)) (old new : Outside) (ending : Ending) (s : IsSession table args old new ending) (before after : Slots) → IsGround table s.course.bytes s.asked.budget → IsTrue (keeps s.asked.command) → old.vault ≡ Some before → new.vault ≡ Some after
-    → AreTrueSlots table s.course.bytes s.asked.budget before → TearsSo s.asked s.course before after → (s.asked.command ≡ run → s.course.told ≡ [] → EmptiesSo before after) → AreTrueSlots table s.course.bytes s.asked.budget after
-true_slots_stay table args old new ending s before after ground may is now both tears so = grounded_stay table args old new ending s before after (inr ground) (λ told ends. ground) may is now both tears so
+    → AreTrueSlots table s.course.bytes s.asked.budget before → (HasRisen old.vault_faults new.vault_faults → FailsSo s.asked s.course before after) → AreTrueSlots table s.course.bytes s.asked.budget after
+true_slots_stay table args old new ending s before after ground may is now both so = grounded_stay table args old new ending s before after (inr ground) (λ told ends. ground) may is now both so

@@ -1,7 +1,8 @@
 -- The words in which one reads the promises off the contract of a session.
 --   IsUsable table asked bytes held      a checkpoint is taken, for this script and budget, and its records fit
 --   IsAnswer ending                      the session answered what was asked, or there was no memory
---   ends_early ending                    the session ended before its searches began: by its arguments, its source or its slots
+--   ends_early ending                    the session ended before its searches began: by its arguments, its source or what its
+--                                        slots hold, and not by a fault of the vault
 --   IsAmple table args old new asked course      the arguments are accepted, the source gives a script, nothing stops the session on
 --                                        its way, the checkpoint that `resume` takes is usable, and nothing failed
 --   PrintsText table budget bytes old new n      the sink took the text of the script under this budget, and n says whether a fault ends it
@@ -15,7 +16,9 @@
 --                                        slot of the next checkpoint, or the one that `run` could not empty
 --   StoresAfresh table asked course old new      each slot is empty or holds a true checkpoint, but for that of the next checkpoint, if
 --                                        its store failed
---   EmptiesSo before after               a slot that `run` could not empty holds what it held, or bytes that are no checkpoint
+--   FailsSo asked course before after    what a session whose vault failed left in the slots: in the slot of the next checkpoint
+--                                        what was there, bytes that are no checkpoint, or the checkpoint of the next step; or in a
+--                                        slot that `run` could not empty what it held, or bytes that are no checkpoint
 use Rattle.std.specs.Prelude.{◌≡◌, ◌⊎◌, ℕ, Bool, ◌≤◌, IsTrue, List, length, Option, Some, None, true, false, []}
 use Rattle.std.specs.Io.KnownBytes.{Appends}
 use Rattle.sha2.specs.Sha256.{sha256}
@@ -35,8 +38,8 @@ use Rattle.lc_session_rules.specs.Options.{Command, run, resume, check, summary,
 use Rattle.lc_session_rules.specs.Needs.{IsNeeds, MeetsFirst}
 use Rattle.lc_session_rules.specs.Slots.{slot_of, turn_after, stored_bytes, takes, choice, is_for, IsTrueCheckpoint, IsEmptyOrTrue}
 use Rattle.lc_session_rules.specs.Endings.{Ending, done, usage, paused, source_fault, sink_fault, vault_fault, no_memory, no_checkpoint, damaged_checkpoint, other_script, rejected, too_long, unfit}
-use Rattle.lc_session_rules.specs.Session.{most_bytes, end_number, Outside, Course, GoesOnFrom, AreHalfEmptied}
-use Rattle.lc_session_rules.specs.Chain.{IsLeft}
+use Rattle.lc_session_rules.specs.Session.{most_bytes, end_number, Outside, Course, GoesOnFrom, AreHalfEmptied, told_slots}
+use Rattle.lc_session_rules.specs.Chain.{IsLeft, IsNextCheckpoint}
 
 -- a checkpoint that a session of these arguments resumes: it is taken, it is for this script and budget, and its records fit
 pub record IsUsable (table : List Call) (asked : Settings) (bytes : List ℕ) (held : Option Slots) : Type 0 where
@@ -128,10 +131,12 @@ StoresAfresh table asked course old new = WhereTold old.vault new.vault (λ befo
     ((slot : Slot) → IsEmptyOrTrue slot table course.bytes asked.budget (in_slot slot after))
     ⊎ (HasRisen old.vault_faults new.vault_faults × IsEmptyOrTrue (other (next_slot course)) table course.bytes asked.budget (in_slot (other (next_slot course)) after)))
 
--- a slot that could not be emptied holds what it held, or bytes that are no checkpoint
-abbrev pub EmptiesSo : Slots → Slots → Type 0
-EmptiesSo before after =
-    ((held : List ℕ) → after ≡ put Zero held before → IsLeft before.zero_slot held) × ((held : List ℕ) → after ≡ put One held empty_slots → IsLeft before.one_slot held)
+-- a session whose vault failed: the slot of the next checkpoint is left as a store may leave it that failed, or a slot that `run`
+-- could not empty holds what it held, or bytes that are no checkpoint
+abbrev pub FailsSo : Settings → Course → Slots → Slots → Type 0
+FailsSo asked course before after =
+    ((held : List ℕ) × (after ≡ put (next_slot course) held (told_slots asked course before)) × (IsLeft (in_slot (next_slot course) (told_slots asked course before)) held ⊎ IsNextCheckpoint asked course held))
+    ⊎ ((asked.command ≡ run) × (course.told ≡ []) × ((held : List ℕ) × (((after ≡ put Zero held before) × IsLeft before.zero_slot held) ⊎ ((after ≡ put One held empty_slots) × IsLeft before.one_slot held))))
 
 -- the sink took the text of the script under this budget
 pub record PrintsText (table : List Call) (budget : ℕ) (bytes : List ℕ) (old new : Option (List ℕ)) (n : ℕ) : Type 0 where

@@ -29,7 +29,7 @@ ghost use Rattle.lc_session_rules.specs.Slots.{slot_of, turn_after, takes, choic
 ghost use Rattle.lc_session_rules.specs.Endings.{Ending, done, usage, paused, source_fault, sink_fault, vault_fault, no_memory, other_script, rejected};
 ghost use Rattle.lc_session_rules.specs.Summary.{summary_text};
 ghost use Rattle.lc_session_rules.specs.Session.{Outside, Course, rounds_of, keeps, IsFresh, GoesOnFrom, Fits, begin_with, Keeps, Tears, IsSession};
-ghost use Rattle.lc_session_rules.specs.Promises.{IsAmple, IsAnswer, PrintsText, checkpoint_of, Holds, StartsTruly, StoresTruly, StoresAfresh, EmptiesSo, ends_early};
+ghost use Rattle.lc_session_rules.specs.Promises.{IsAmple, IsAnswer, PrintsText, checkpoint_of, Holds, StartsTruly, StoresTruly, StoresAfresh, FailsSo, ends_early};
 ghost use Rattle.lc_session_rules.specs.Chain.{Chain, IsGround, HasBegun, TearsSo, GoesOn, ChainsAreTrue};
 
 /// A session goes by the settings that its arguments ask for. It ends with the index of a refused
@@ -49,13 +49,13 @@ pub fn sessions_answer_what_was_asked()
 
 /// What a session says of itself is what it did. One that is paused, or that a fault of the vault or want of memory ends, wrote
 /// nothing; it names the last round that it told, or how many. If the checkpoint is of another script or budget, it names those of
-/// the checkpoint that was found. Without keep the vault is as it was. What `check` writes is the line of the bytes that it read,
+/// the checkpoint that was found, where the vault tells its slots. Without keep the vault is as it was. What `check` writes is the line of the bytes that it read,
 /// and its status is their verdict; what `summary` writes is the line of its number, and it reads nothing. A session that finishes
 /// met no fault.
 ///
 /// The count of faults of the source, the sink or the vault rises only if the session ends with that fault. A session that ends by its
-/// arguments, its source or its slots, before its searches began, told no record and left the sink, the vault and the watchers as they
-/// were. If the sink fails, it took a front of the text, and not all of it; the text is that of the script, if
+/// arguments, its source or what its slots hold, before its searches began, told no record and left the sink, the vault and the
+/// watchers as they were. If the sink fails, it took a front of the text, and not all of it; the text is that of the script, if
 /// the session started afresh or from a true checkpoint. Under every other ending but for a finished or rejected session the sink is
 /// as it was. Over any slots the words that `resume` prints are nonzero words of the codes, with their weights. What a session of
 /// `run` or `resume` that finishes prints for its queries for nearest words is true. If checkpoints are kept, a watcher that is handed
@@ -129,7 +129,8 @@ pub fn sessions_say_what_they_did()
 /// checkpoint of the last record told, and the other slot that of the record before it. After one
 /// record alone the other slot is as the session found it, and without a record both are. If a store
 /// failed, the checkpoint of the last record told is in the other slot. Turns alternate between the slots
-/// below 2^60; those of a session of `run`, or over true slots, are below 2^58.
+/// below 2^60; those of a session of `run`, or over true slots, are below 2^58
+/// (`stored_slots_hold_true_checkpoints`).
 pub fn slots_hold_the_last_checkpoints()
     ensures last { (asked : Settings) (course : Course) (old new : Option Slots) (before : List SessionStep)
         (s : SessionStep) → course.told ≡ before ++ s ∷ [] → Keeps asked course old new →
@@ -163,8 +164,8 @@ pub fn slots_hold_the_last_checkpoints()
 /// failed: the slot of the turn after the last record told, or the one that `run` could not empty. After a session of `run` that
 /// emptied the slots (it finished or paused, or the sink failed, or it told a record) each is empty or holds a true checkpoint, but
 /// for that of the turn after the last record told, if its store failed. A true checkpoint has a turn below 2^58, and so has each
-/// record told. True slots stay true slots, whatever the command and the ending, if a store that failed left what was there, bytes
-/// that are no checkpoint, or all of the bytes that it was given: the checkpoint of the next step.
+/// record told. True slots stay true slots under every session of `run` and `resume`, however it ends, if a store that failed left
+/// what was there, bytes that are no checkpoint, or all of the bytes that it was given: the checkpoint of the next step.
 pub fn stored_slots_hold_true_checkpoints()
     ensures stored { (table : List Call) (args : List (List ℕ)) (old new : Outside) (ending : Ending)
         (s : IsSession table args old new ending) → IsGround table s.course.bytes s.asked.budget →
@@ -188,8 +189,7 @@ pub fn stored_slots_hold_true_checkpoints()
         (s : IsSession table args old new ending) (before after : Slots) →
         IsGround table s.course.bytes s.asked.budget → IsTrue (keeps s.asked.command) → old.vault ≡ Some before →
         new.vault ≡ Some after → AreTrueSlots table s.course.bytes s.asked.budget before →
-        TearsSo s.asked s.course before after →
-        (s.asked.command ≡ run → s.course.told ≡ [] → EmptiesSo before after) →
+        (HasRisen old.vault_faults new.vault_faults → FailsSo s.asked s.course before after) →
         AreTrueSlots table s.course.bytes s.asked.budget after }
 {}
 
@@ -208,9 +208,9 @@ pub fn texts_are_those_of_the_answers()
         Needs table [] ss needs → MeetsFirst table bytes needs }
 {}
 
-/// If a watcher paused the session at its last record, one that is handed back has paused more often
-/// than before. If none did and checkpoints are kept, all that are handed back have paused as often as
-/// before.
+/// If a watcher paused the session at its last record, one that is handed back has paused more often than one
+/// of those before. If none did and checkpoints are kept, each that is handed back has paused as often as one of
+/// those before. (That it is the same watcher, `heard` of the contract says.)
 pub fn pauses_are_those_of_watchers_handed_back()
     ensures paused { (keep : Bool) (notes : List Record) (paused : Bool) (before after : List Hearing) →
         Kept keep notes paused before after → paused ≡ true →
