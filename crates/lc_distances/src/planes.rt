@@ -19,13 +19,14 @@ pub fn gather(word: &[u8], columns: &[usize]) -> [u8; 64]
     block
 }
 
-/// The first planes, at most 4, of the symbols of a word at some of its columns, at most 64: bit t of a plane is for column t
-/// of these.
+/// The first planes, at most 4, of the symbols of a word at some of its columns, at most 64, and then zeros: bit t of a plane is
+/// for column t of these.
 pub fn pack(word: &[u8], columns: &[usize], planes: usize) -> [u64; 4]
     requires few { length columns.now ≤ 64 }
     requires inside { (t : ℕ) → t < length columns.now → slice_index columns.now t < length word.now }
     requires planes { planes ≤ 4 }
     ensures are { (j : ℕ) → j < planes → slice_index result j ≡ plane_at j columns.now word.now }
+    ensures rest { (j : ℕ) → planes ≤ j → j < 4 → slice_index result j ≡ 0 }
 {
     let block = gather(word, columns);
     let mut bits = [0; 4];
