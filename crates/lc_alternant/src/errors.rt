@@ -11,8 +11,8 @@ use lc_vec::Word;
 use std::alloc::Global;
 
 // The word over the locator field that is 0 at each coordinate at which the values aren't, and whose sums for the first checks are
-// the right side: None if there is none. The values are 0 at no more coordinates than the right side has entries, so no other word
-// is such.
+// the right side. The values are 0 at no more coordinates than the right side has entries, so no other word is such. If there is
+// none, the answer is None or any word: who decodes tests it.
 pub(crate) fn errors_at_zeros(
     alloc: Global,
     locator: &Field,
@@ -40,7 +40,7 @@ pub(crate) fn errors_at_zeros(
     }
 }
 
-// The word whose sums for the first checks are the right side: None if there is none.
+// The word whose sums for the first checks are the right side. If there is none, the answer is None or any word.
 fn solution(
     alloc: Global,
     locator: &Field,

@@ -35,7 +35,7 @@ impl Model for Alternant {
     ghost view = { λ a. record { locator = a.locator; points = a.points.items; multipliers = a.multipliers.items; r = a.r } };
 }
 
-/// A code beside an alternant form that it has: its words are those of the form.
+/// A code beside an alternant form. The calls that make one say that its words are those of the form (`formed`).
 #[derive(Drop)]
 pub struct FormedCode {
     /// The code.

@@ -3,7 +3,7 @@
 --   IsLeader C x e             e is the leader of the coset of x: its first word, by weight and then lexicographically
 --   syndrome f checks x        the dots of x with the rows of a parity-check matrix
 --   IsParityCheck C checks     the words of the code are those that have dot 0 with each row
---   IsLeaderTable C checks leaders      what a table of coset leaders is seen as: of each word x, the leader of its coset is the entry
+--   IsLeaderTable C checks leaders      a list of the coset leaders by their syndromes: of each word x, the leader of its coset is the entry
 --                              whose index is the number with the symbols of its syndrome as digits, the first one lowest
 --   too_many_cosets C          n - k if the code has more than 2^20 cosets, of which there are q^(n - k); else None
 use Rattle.std.specs.Prelude.{◌≡◌, ℕ, ◌-◌, ◌^◌, ◌↔◌, nat_lt, if◌then◌else◌, List, [], length, map, slice_index_or, Option, Some, None}

@@ -29,13 +29,14 @@ pub enum CodeRefusal {
     RootAt(usize),
     /// The symbol field isn't a subfield of the locator field.
     NotASubfield,
-    /// The fields of two codes differ.
+    /// The fields of two codes differ; of codes that are concatenated, the size of one field is no power of the size of the other.
     FieldsDiffer,
-    /// Rows of a matrix, two lists or two codes have different lengths.
+    /// Rows of a matrix, two lists, two words or two codes have different lengths, or a word or a message hasn't that of its code.
     LengthsDiffer,
     /// The coordinates aren't strictly rising, one of them isn't a coordinate of the code, or they are all its coordinates.
     BadPositions,
-    /// The dimension of the inner code and the degree of the outer field over the inner one, which differ.
+    /// Two numbers that differ: the dimension of the inner code and the degree of the outer field over the inner one, or, of
+    /// construction X, the dimension of the tail and what it should be.
     InnerDimension(usize, usize),
     /// The field has more than 16 elements.
     FieldTooLarge,

@@ -85,7 +85,7 @@ fn sets_of(alloc: Global, sets: &Sets, word: &Word) -> Result<Sets, NoMemory>
     Sets::build(alloc, &matrix)
 }
 
-// Whether a row is a word with so many symbols `c` before it.
+// True only for a row that is a word with so many symbols `c` before it.
 fn is_fronted(alloc: Global, row: &[u8], count: usize, c: u8, word: &[u8]) -> Result<bool, NoMemory>
     ensures so { IfOk result (λ b. IsTrue b → row.now ≡ replicate count c ++ word.now) }
 {
@@ -93,7 +93,7 @@ fn is_fronted(alloc: Global, row: &[u8], count: usize, c: u8, word: &[u8]) -> Re
     Ok(row == other.symbols())
 }
 
-// Whether the rows of set `j` of the larger code, after its first one, are those of the code's set, with zeros before them.
+// True only if the rows of set `j` of the larger code, after its first one, are those of the code's set, with zeros before them.
 fn has_rows(alloc: Global, led: &Sets, sets: &Sets, j: usize) -> Result<bool, NoMemory>
     requires larger { length led.now.rows ≡ length sets.now.rows + 1 }
     requires set { j < set_count sets.now }
@@ -108,7 +108,7 @@ fn has_rows(alloc: Global, led: &Sets, sets: &Sets, j: usize) -> Result<bool, No
     Ok(true)
 }
 
-// Whether set `j` of the larger code has the rows that the code's set gives, and the row of `left`, with ones before it.
+// True only if set `j` of the larger code has the rows that the code's set gives, and the row of `left`, with ones before it.
 fn has_set(alloc: Global, led: &Sets, sets: &Sets, left: &Word, j: usize) -> Result<bool, NoMemory>
     requires larger { length led.now.rows ≡ length sets.now.rows + 1 }
     requires set { j < set_count sets.now }
@@ -125,7 +125,7 @@ fn has_set(alloc: Global, led: &Sets, sets: &Sets, left: &Word, j: usize) -> Res
     Ok(same)
 }
 
-// Whether the first sets of the larger code have the rows that the sets of the code give, and what is left of the word.
+// True only if the first sets of the larger code have the rows that the sets of the code give, and what is left of the word.
 fn has_sets(
     alloc: Global,
     led: &Sets,
@@ -203,7 +203,8 @@ pub(crate) fn led_of(
     }))
 }
 
-/// Whether a block of a phase has 4,096 patterns, and they are those of a block of the larger code's plan.
+/// True only if a block of a phase has 4,096 patterns, and they are those of a block of the larger code's plan. (A false answer costs
+/// time: the block is done pattern by pattern.)
 pub(crate) fn has_block(led: &Led, phase: CosetPhase, block: u64) -> bool
     requires small { block ≤ 2 ^ 40 }
     ensures so { IsTrue result → HasBlock led.now phase block }

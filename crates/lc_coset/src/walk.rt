@@ -25,7 +25,7 @@ pub(crate) struct Room {
 }
 
 impl Room {
-    /// A room for codes of dimension `k` and length `n`, which is at no pattern yet.
+    /// A room for codes of the dimension and length of this one, which is at no pattern yet.
     pub(crate) fn new(alloc: Global, sets: &Sets) -> Result<Room, NoMemory>
         ensures room { IfOk result (IsRoomOf sets.now) }
     {

@@ -1,5 +1,5 @@
 //! The eighteen fields of `codes`: sums, products, powers, inverses and embeddings of their elements, by tables that are
-//! made once and checked against products of polynomials at every entry.
+//! made once for each field.
 #![tactic(auto)]
 
 mod digits;

@@ -1,14 +1,11 @@
 -- Systems of linear equations over a field (any textbook's elimination on the augmented matrix).
 --   augmented rows right          each row, with its right side after it
 --   Solves f rows right w         the dot of w with row i is the right side's symbol i, for each i
---   solution_symbol n ps e c      the symbol of the solution at column c
---   solution_word n ps e          the word of n symbols that is e_i's symbol at column n at place i, and 0 elsewhere
---   IsSolutionWord f n ps e w     w is that word, said symbol by symbol
+--   IsSolutionWord f n ps e w     w has n symbols: at place i the symbol of row i of e at column n, and 0 elsewhere
 --   IsSolutionTo f n ps e i w     w is written so far as the first i places
-use Rattle.std.specs.Prelude.{◌≡◌, ℕ, ◌<◌, if◌then◌else◌, ◌==◌, List, [], ◌∷◌, ◌++◌, length, map, slice_index, slice_index_or, Contains}
+use Rattle.std.specs.Prelude.{◌≡◌, ℕ, ◌<◌, List, [], ◌∷◌, ◌++◌, length, slice_index, slice_index_or, Contains}
 use Rattle.lc_algebra.specs.declared.FieldName.{FieldName}
 use Rattle.lc_algebra.specs.Word.{IsWord, word_dot}
-use Rattle.lc_algebra.specs.Span.{below}
 use Rattle.lc_algebra.specs.Matrix.{entry}
 
 unfoldable pub augmented : List (List ℕ) → List ℕ → List (List ℕ)
@@ -18,14 +15,6 @@ augmented (row ∷ rows) (b ∷ right) = (row ++ b ∷ []) ∷ augmented rows ri
 
 abbrev pub Solves : FieldName → List (List ℕ) → List ℕ → List ℕ → Type 0
 Solves f rows right w = (i : ℕ) → i < length rows → word_dot f (slice_index_or rows i []) w ≡ slice_index right i
-
-unfoldable pub solution_symbol : ℕ → List ℕ → List (List ℕ) → ℕ → ℕ
-solution_symbol n [] e c = 0
-solution_symbol n (p ∷ ps) [] c = 0
-solution_symbol n (p ∷ ps) (g ∷ e) c = if p == c then slice_index g n else solution_symbol n ps e c
-
-unfoldable pub solution_word : ℕ → List ℕ → List (List ℕ) → List ℕ
-solution_word n ps e = map (solution_symbol n ps e) (below n)
 
 pub record IsSolutionWord (f : FieldName) (n : ℕ) (ps : List ℕ) (e : List (List ℕ)) (w : List ℕ) : Type 0 where
   pub word : IsWord f n w

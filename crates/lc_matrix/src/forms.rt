@@ -52,8 +52,9 @@ impl Matrix {
         Ok(Some(matrix))
     }
 
-    /// Row-reduces the rows, trying the columns in `order`. Returns the reduced matrix with its zero rows, and for each row that
-    /// isn't zero on the order the index in `order` of its pivot column.
+    /// Row-reduces the rows, trying the columns in `order`. Returns the rows that come of it, the last of which may be zero on the
+    /// order, and for each row that isn't the index in `order` of its pivot column. If the order leaves columns out, other rows may
+    /// come of it as well.
     pub fn reduced_in(
         &self,
         alloc: Global,

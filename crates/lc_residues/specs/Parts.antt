@@ -1,4 +1,4 @@
--- What the loops have made so far of a quadratic residue code; the clauses of private functions alone speak of these.
+-- What the loops have made so far of a quadratic residue code; invariants of loops alone speak of these.
 --   word_part f n t m      the first m symbols of the residue word
 --   shift_part n k w m     the first m symbols of a cyclic shift
 --   rows_part f n t m      the word of ones and the first m cyclic shifts of the residue word

@@ -41,7 +41,7 @@ impl Steps {
         Ok(steps)
     }
 
-    /// Whether each syndrome has its leader.
+    /// True only if each syndrome has its leader.
     pub(crate) fn is_whole(&self) -> bool
         ensures whole { IsTrue result → (s : ℕ) → s < length self.now.symbols.items →
             slice_index self.now.symbols.items s ≢ unknown }
