@@ -56,12 +56,12 @@ pub trait Folder {
         ensures created { IfOk result (λ file. IsNew (files self.old) name.now (Self.Writer.written file)) }
         ensures others { WhereTold (files self.old) (files self.new) (IsTouched name.now) };
 
-    /// Waits until the disk has what was written to a file that this folder made. Only then does the file have these bytes: one that
-    /// is not kept may hold any.
-    fn keep(&mut self, file: &Self::Writer) -> io::Result<()>
+    /// Waits until the disk has what was written to a file that this folder made, and closes it: nothing can be written to it
+    /// afterwards. Only then does the file have these bytes: one that is not kept may hold any.
+    fn keep(&mut self, file: Self::Writer) -> io::Result<()>
         ensures kept { OnOk result
-            (WhereTold (files self.old) (files self.new) (IsKept (Self.Writer.written file.now))) }
-        ensures others { WhereTold (files self.old) (files self.new) (TouchesOnly (Self.Writer.written file.now)) };
+            (WhereTold (files self.old) (files self.new) (IsKept (Self.Writer.written file))) }
+        ensures others { WhereTold (files self.old) (files self.new) (TouchesOnly (Self.Writer.written file)) };
 
     /// Gives the file `from` the name `to`, in place of one that has it. A call that fails has done so all the same, or changes nothing.
     fn move_file(&mut self, from: &str, to: &str) -> io::Result<()>
@@ -113,7 +113,7 @@ impl<R: Files> Folder for R {
         Ok(WriterSink::new(fs::File::create_new(self, name)?))
     }
 
-    fn keep(&mut self, file: &WriterSink<<R as Files>::File>) -> io::Result<()> {
+    fn keep(&mut self, file: WriterSink<<R as Files>::File>) -> io::Result<()> {
         file.get_ref().sync_all()
     }
 

@@ -135,7 +135,7 @@ fn load_file<R: Folder>(
     }
 }
 
-// Makes a new file of these bytes, in place of what has the name, and waits until the disk has them.
+// Makes a new file of these bytes, in place of what has the name, waits until the disk has them, and closes it.
 #[tactic(auto, using(crate::proofs::FolderLaws::made_file, crate::proofs::FolderLaws::torn_file))]
 fn make_file<R: Folder>(folder: &mut R, name: &str, bytes: &[u8]) -> Result<(), Failed>
     ensures made { OnOk result (WhereTold (R.files folder.old) (R.files folder.new) (IsMade name.now bytes.now)) }
@@ -146,7 +146,7 @@ fn make_file<R: Folder>(folder: &mut R, name: &str, bytes: &[u8]) -> Result<(), 
         return Err(Failed);
     };
     file.put(bytes)?;
-    match folder.keep(&file) {
+    match folder.keep(file) {
         Ok(()) => Ok(()),
         Err(_) => Err(Failed),
     }

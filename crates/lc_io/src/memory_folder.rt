@@ -1,5 +1,5 @@
 // A folder in memory.
-ghost use Rattle.std.specs.Prelude.{◌≡◌, ◌↔◌, ℕ, List, Option, None, Some, true, OnOk, OnErr, IfOk, IfErr, IsOk, IsErr, IsSome};
+ghost use Rattle.std.specs.Prelude.{◌≡◌, ◌↔◌, ℕ, List, Option, None, Some, true, OnOk, OnErr, IfOk, IfErr, IsOk, IsErr, IsSome, string_bytes};
 ghost use Rattle.std_io.specs.IoError.{error_kind};
 ghost use Rattle.lc_io.specs.Memory.{IsFailing};
 ghost use Rattle.lc_io.specs.MemoryFolders.{HoldsSame, files_in};
@@ -79,11 +79,10 @@ impl MemoryFolder {
     }
 
     // Makes a file of these bytes, in place of one that has the name.
-    fn set(&mut self, name: &str, bytes: Vec<u8>) -> io::Result<()>
-        ensures made { OnOk result (IsMade name.now bytes.items (files_in self.old) (files_in self.new)) }
+    fn set(&mut self, name: String, bytes: Vec<u8>) -> io::Result<()>
+        ensures made { OnOk result (IsMade (string_bytes name) bytes.items (files_in self.old) (files_in self.new)) }
         ensures same { OnErr result (HoldsSame (files_in self.old) (files_in self.new)) }
     {
-        let name = String::from_str(self.alloc, name)?;
         self.files.insert(name, bytes)?;
         Ok(())
     }
@@ -147,24 +146,25 @@ impl Folder for MemoryFolder {
             name: String::from_str(self.alloc, name)?,
             bytes: Vec::new(self.alloc),
         };
-        self.set(name, Vec::new(self.alloc))?;
+        self.set(String::from_str(self.alloc, name)?, Vec::new(self.alloc))?;
         Ok(file)
     }
 
     /// A call that fails leaves the first half of the bytes, rounded down.
-    fn keep(&mut self, file: &MemoryFile) -> io::Result<()> {
+    fn keep(&mut self, file: MemoryFile) -> io::Result<()> {
+        let MemoryFile { name, mut bytes } = file;
         if let Err(fault) = self.pass() {
-            let half = file.bytes[..file.bytes.len() / 2].to_vec(self.alloc)?;
-            self.set(file.name.as_str(), half)?;
+            bytes.truncate(bytes.len() / 2);
+            self.set(name, bytes)?;
             return Err(fault);
         }
-        self.set(file.name.as_str(), file.bytes.to_vec(self.alloc)?)
+        self.set(name, bytes)
     }
 
     fn move_file(&mut self, from: &str, to: &str) -> io::Result<()> {
         self.pass()?;
         let bytes = self.copied(from)?;
-        self.set(to, bytes)?;
+        self.set(String::from_str(self.alloc, to)?, bytes)?;
         if from != to {
             let _ = self.clear(from);
         }
