@@ -5,13 +5,8 @@
 --   IsCleared name old new   no file has this name; what has another name is as it was
 --   IsCounted old new        the calls after one more, which failed exactly if its number is one of those that fail
 --   half_of bytes            the first half of the bytes, rounded down
---   FailsBy kind result      a call failed with an error of this kind
---   FailsOnlyBy kind result  a call gave its answer, or failed with an error of this kind
-use Rattle.std.specs.Prelude.{◌≡◌, ◌/◌, ℕ, List, length, take, None, option_map, String, Vec, Result, IfErr, IsErrAnd}
+use Rattle.std.specs.Prelude.{◌≡◌, ◌/◌, ℕ, List, length, take, None, option_map, String, Vec}
 use Rattle.std.specs.BTreeMap.{BTreeMap, get_by_text}
-use Rattle.std_io.specs.IoError.{error_kind}
-use Rattle.std_io.specs.declared.io.error.Error.{Error}
-use Rattle.std_io.specs.declared.io.kind.ErrorKind.{ErrorKind}
 use Rattle.lc_io.specs.Memory.{Calls, IsFailing, answered, failed}
 use Rattle.lc_io.specs.Folders.{Contents, IsTouched}
 use Rattle.lc_io.specs.declared.memory_folder.MemoryFolder.{MemoryFolder}
@@ -35,9 +30,3 @@ pub record IsCounted (old new : Calls) : Type 0 where
 
 abbrev pub half_of : List ℕ → List ℕ
 half_of bytes = take (length bytes / 2) bytes
-
-abbrev pub FailsBy : {T : Type 0} → ErrorKind → Result T Error → Type 0
-FailsBy kind result = IsErrAnd result (λ e. error_kind e ≡ kind)
-
-abbrev pub FailsOnlyBy : {T : Type 0} → ErrorKind → Result T Error → Type 0
-FailsOnlyBy kind result = IfErr result (λ e. error_kind e ≡ kind)

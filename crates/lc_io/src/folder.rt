@@ -4,7 +4,7 @@ ghost use Rattle.std.specs.Io.KnownBytes.{Appends};
 ghost use Rattle.std_io.specs.IoError.{error_kind};
 ghost use Rattle.lc_io.specs.Outside.{AppendsPart};
 ghost use Rattle.lc_io.specs.Vaults.{WhereTold};
-ghost use Rattle.lc_io.specs.Folders.{Known, IsNew, IsWrittenOn, KeepsName, Opens, IsKept, TouchesOnly, IsTouched, IsMoved, IsMovedOrNot};
+ghost use Rattle.lc_io.specs.Folders.{Known, IsNew, IsWrittenOn, KeepsName, Opens, IsKept, TouchesOnly, IsTouched, IsMoved, IsMovedOrNot, FailsBy};
 
 use crate::{Failed, WriterSink, write_whole};
 use std::fs::{Files, OpenFile};
@@ -39,12 +39,14 @@ pub trait Folder {
     /// A new file that is open for writing.
     type Writer: NewFile + Drop;
 
-    /// Opens a file. If the folder tells what it holds, the reader gives all bytes of the file, and the error is `NotFound` only if there
-    /// is no file.
+    /// Opens a file. If the folder tells what it holds, the reader gives all bytes of the file, and the answer is the error `NotFound`
+    /// exactly if there is no file.
     fn open_reader(&self, name: &str) -> io::Result<Self::Reader>
         ensures opened { IfOk result (λ file. Opens (files self.now) name.now (Self.Reader.remaining file)) }
         ensures missing { IfErr result (λ error. error_kind error ≡ ErrorKind.NotFound
-            → Known (files self.now) (λ contents. contents name.now ≡ None)) };
+            → Known (files self.now) (λ contents. contents name.now ≡ None)) }
+        ensures absent { Known (files self.now) (λ contents. contents name.now ≡ None
+            → FailsBy ErrorKind.NotFound result) };
 
     /// Removes what has this name, and changes no other file. (That it is gone then is no clause: whoever makes a file of this
     /// name next learns it.)

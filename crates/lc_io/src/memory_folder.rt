@@ -3,9 +3,9 @@ ghost use Rattle.std.specs.Prelude.{◌≡◌, ◌⊎◌, ◌↔◌, ℕ, List, 
 ghost use Rattle.std.specs.Io.Cursor.{cursor_remaining};
 ghost use Rattle.std_io.specs.IoError.{error_kind};
 ghost use Rattle.lc_io.specs.Memory.{IsFailing};
-ghost use Rattle.lc_io.specs.MemoryFolders.{FailsBy, FailsOnlyBy, HoldsSame, IsCleared, IsCounted, files_in, half_of};
+ghost use Rattle.lc_io.specs.MemoryFolders.{HoldsSame, IsCleared, IsCounted, files_in, half_of};
 ghost use Rattle.lc_io.specs.Vaults.{WhereTold};
-ghost use Rattle.lc_io.specs.Folders.{Known, IsMade, IsTouched, IsKept, IsMoved, IsMovedOrNot, IsNew, IsWrittenOn, KeepsName, Opens, TouchesOnly};
+ghost use Rattle.lc_io.specs.Folders.{FailsBy, FailsOnlyBy, Known, IsMade, IsTouched, IsKept, IsMoved, IsMovedOrNot, IsNew, IsWrittenOn, KeepsName, Opens, TouchesOnly};
 
 use crate::calls::Schedule;
 use crate::{Failed, Folder, NewFile, NoMemory};
@@ -143,6 +143,8 @@ impl Folder for MemoryFolder {
         ensures opened { IfOk result (λ file. Opens (Some (files_in self.now)) name.now (cursor_remaining (λ bytes. Some bytes.items) file)) }
         ensures missing { IfErr result (λ error. error_kind error ≡ ErrorKind.NotFound
             → Known (Some (files_in self.now)) (λ contents. contents name.now ≡ None)) }
+        ensures absent { Known (Some (files_in self.now)) (λ contents. contents name.now ≡ None
+            → FailsBy ErrorKind.NotFound result) }
         ensures refused { IsSome (files_in self.now name.now) → FailsOnlyBy ErrorKind.OutOfMemory result }
     {
         Ok(Cursor::new(self.copied(name)?))
