@@ -4,11 +4,16 @@
 --   HoldsSame old new        each file is as it was
 --   IsCleared name old new   no file has this name; what has another name is as it was
 --   IsCounted old new        the calls after one more, which failed exactly if its number is one of those that fail
---   half_of bytes            the first half of the bytes, rounded down
+--   IsHalfKept file error old new    a call that was to keep this file failed: the file with its name has the first half of its bytes,
+--                            rounded down; what has another name is as it was
+--   LacksMemory file error old new   memory was refused to such a call: no file had that name, and each file is as it was
 use Rattle.std.specs.Prelude.{◌≡◌, ◌/◌, ℕ, List, length, take, None, option_map, String, Vec}
 use Rattle.std.specs.BTreeMap.{BTreeMap, get_by_text}
+use Rattle.std_io.specs.IoError.{error_kind}
+use Rattle.std_io.specs.declared.io.error.Error.{Error}
+use Rattle.std_io.specs.declared.io.kind.ErrorKind.TheVariants.{Other, OutOfMemory}
 use Rattle.lc_io.specs.Memory.{Calls, IsFailing, answered, failed}
-use Rattle.lc_io.specs.Folders.{Contents, IsTouched}
+use Rattle.lc_io.specs.Folders.{Contents, IsMade, IsTouched, Written}
 use Rattle.lc_io.specs.declared.memory_folder.MemoryFolder.{MemoryFolder}
 
 abbrev pub contents_of : {Y Z : Type 0} → BTreeMap (String Y) (Vec ℕ Z) → Contents
@@ -28,5 +33,11 @@ pub record IsCounted (old new : Calls) : Type 0 where
   pub fails : IsFailing old → new ≡ failed old
   pub answers : ¬ (IsFailing old) → new ≡ answered old
 
-abbrev pub half_of : List ℕ → List ℕ
-half_of bytes = take (length bytes / 2) bytes
+pub record IsHalfKept (file : Written) (error : Error) (old new : Contents) : Type 0 where
+  pub kind : error_kind error ≡ Other
+  pub half : IsMade file.name (take (length file.bytes / 2) file.bytes) old new
+
+pub record LacksMemory (file : Written) (error : Error) (old new : Contents) : Type 0 where
+  pub kind : error_kind error ≡ OutOfMemory
+  pub absent : old file.name ≡ None
+  pub same : HoldsSame old new

@@ -3,7 +3,7 @@ ghost use Rattle.std.specs.Prelude.{◌≡◌, ◌⊎◌, ◌↔◌, ℕ, List, 
 ghost use Rattle.std.specs.Io.Cursor.{cursor_remaining};
 ghost use Rattle.std_io.specs.IoError.{error_kind};
 ghost use Rattle.lc_io.specs.Memory.{IsFailing};
-ghost use Rattle.lc_io.specs.MemoryFolders.{HoldsSame, IsCleared, IsCounted, files_in, half_of};
+ghost use Rattle.lc_io.specs.MemoryFolders.{HoldsSame, IsCleared, IsCounted, IsHalfKept, LacksMemory, files_in};
 ghost use Rattle.lc_io.specs.Vaults.{WhereTold};
 ghost use Rattle.lc_io.specs.Folders.{FailsBy, FailsOnlyBy, Known, IsMade, IsTouched, IsKept, IsMoved, IsMovedOrNot, IsNew, IsWrittenOn, KeepsName, Opens, TouchesOnly};
 
@@ -140,7 +140,8 @@ impl Folder for MemoryFolder {
 
     /// Fails exactly if there is no such file, or for want of memory.
     fn open_reader(&self, name: &str) -> io::Result<Cursor<Vec<u8>>>
-        ensures opened { IfOk result (λ file. Opens (Some (files_in self.now)) name.now (cursor_remaining (λ bytes. Some bytes.items) file)) }
+        ensures opened { IfOk result (λ file. Opens (Some (files_in self.now)) name.now
+            (cursor_remaining (λ bytes. Some bytes.items) file)) }
         ensures missing { IfErr result (λ error. error_kind error ≡ ErrorKind.NotFound
             → Known (Some (files_in self.now)) (λ contents. contents name.now ≡ None)) }
         ensures absent { Known (Some (files_in self.now)) (λ contents. contents name.now ≡ None
@@ -154,7 +155,8 @@ impl Folder for MemoryFolder {
     fn remove(&mut self, name: &str) -> io::Result<()>
         ensures others { WhereTold (Some (files_in self.old)) (Some (files_in self.new)) (IsTouched name.now) }
         ensures failing { IsFailing self.old.calls → FailsBy ErrorKind.Other result }
-        ensures missing { ¬ (IsFailing self.old.calls) → files_in self.old name.now ≡ None → FailsBy ErrorKind.NotFound result }
+        ensures missing { ¬ (IsFailing self.old.calls) → files_in self.old name.now ≡ None
+            → FailsBy ErrorKind.NotFound result }
         ensures always { ¬ (IsFailing self.old.calls) → IsSome (files_in self.old name.now) → IsOk result }
         ensures gone { OnOk result (IsCleared name.now (files_in self.old) (files_in self.new)) }
         ensures same { OnErr result (HoldsSame (files_in self.old) (files_in self.new)) }
@@ -195,13 +197,13 @@ impl Folder for MemoryFolder {
     /// Fails exactly if the number of the call is one that fails, or for want of memory, which is taken only if no file has the name
     /// any more. A call that fails by its number leaves the first half of the bytes, rounded down.
     fn keep(&mut self, file: MemoryFile) -> io::Result<()>
-        ensures kept { OnOk result (WhereTold (Some (files_in self.old)) (Some (files_in self.new)) (IsKept (Some file))) }
+        ensures kept { OnOk result
+            (WhereTold (Some (files_in self.old)) (Some (files_in self.new)) (IsKept (Some file))) }
         ensures others { WhereTold (Some (files_in self.old)) (Some (files_in self.new)) (TouchesOnly (Some file)) }
         ensures failing { IsFailing self.old.calls → IsErr result }
-        ensures torn { IfErr result (λ error. (IsFailing self.old.calls × (error_kind error ≡ ErrorKind.Other)
-            × IsMade file.name (half_of file.bytes) (files_in self.old) (files_in self.new))
-            ⊎ ((error_kind error ≡ ErrorKind.OutOfMemory) × (files_in self.old file.name ≡ None)
-            × HoldsSame (files_in self.old) (files_in self.new))) }
+        ensures torn { IfErr result (λ error.
+            (IsFailing self.old.calls × IsHalfKept file error (files_in self.old) (files_in self.new))
+            ⊎ LacksMemory file error (files_in self.old) (files_in self.new)) }
         ensures calls { IsCounted self.old.calls self.new.calls }
     {
         let MemoryFile { name, mut bytes } = file;
@@ -220,7 +222,8 @@ impl Folder for MemoryFolder {
         ensures torn { OnErr result
             (WhereTold (Some (files_in self.old)) (Some (files_in self.new)) (IsMovedOrNot from.now to.now)) }
         ensures failing { IsFailing self.old.calls → FailsBy ErrorKind.Other result }
-        ensures missing { ¬ (IsFailing self.old.calls) → files_in self.old from.now ≡ None → FailsBy ErrorKind.NotFound result }
+        ensures missing { ¬ (IsFailing self.old.calls) → files_in self.old from.now ≡ None
+            → FailsBy ErrorKind.NotFound result }
         ensures refused { ¬ (IsFailing self.old.calls) → IsSome (files_in self.old from.now)
             → FailsOnlyBy ErrorKind.OutOfMemory result }
         ensures same { OnErr result (HoldsSame (files_in self.old) (files_in self.new)) }
