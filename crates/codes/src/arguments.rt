@@ -1,5 +1,5 @@
 //! The arguments of the command line.
-ghost use Rattle.std.specs.Prelude.{◌≡◌, ◌≢◌, IfOk, IsErrAnd, drop};
+ghost use Rattle.std.specs.Prelude.{◌≡◌, ◌≢◌, [], IfOk, IsOk, IsErrAnd, drop};
 ghost use Rattle.std.specs.Vec.Iter.{into_iter_items};
 ghost use Rattle.std.specs.IoError.{error_kind};
 ghost use Rattle.std.specs.declared.io.ErrorKind.TheVariants as kind;
@@ -22,9 +22,10 @@ pub(crate) enum CommandLine {
     NoMemory,
 }
 
-// All words but the first, which is the program's name.
+// All words but the first, which is the program's name. If there are none, no memory is taken.
 fn after_name(alloc: Global, mut all: Args) -> Result<Vec<String>, NoMemory>
     ensures is { IfOk result (λ words. words.items ≡ drop 1 (into_iter_items all)) }
+    ensures nothing { drop 1 (into_iter_items all) ≡ [] → IsOk result }
 {
     let _name = all.next();
     let mut words = Vec::new(alloc);
@@ -34,9 +35,10 @@ fn after_name(alloc: Global, mut all: Args) -> Result<Vec<String>, NoMemory>
     Ok(words)
 }
 
-/// The command line of the words that the library gives, the program's name first.
+/// The command line of the words that the library gives, the program's name first. No memory is taken for a program's name alone.
 pub(crate) fn read_line(alloc: Global, read: io::Result<Args>) -> CommandLine
     ensures words { IfOk read (λ all. IsLineOf (words_of (drop 1 (into_iter_items all))) result) }
+    ensures nothing { IfOk read (λ all. drop 1 (into_iter_items all) ≡ [] → result ≢ CommandLine.NoMemory) }
     ensures full { IsErrAnd read (λ e. error_kind e ≡ kind.OutOfMemory) → result ≡ CommandLine.NoMemory }
     ensures unread { IsErrAnd read (λ e. error_kind e ≢ kind.OutOfMemory) → result ≡ CommandLine.NotUtf8 }
 {

@@ -9,8 +9,9 @@ codes: a workbench for linear codes
   codes check        say whether the certificate on standard input is accepted
   codes summary      search the code of length 48 made from a seed: seed=N
   codes part         search some blocks of the first search of the script:
-                     from=N count=N
-  codes join         make a checkpoint of the lines that part has printed
+                     from=N count=N, after which there may be workers=N
+  codes join         make a checkpoint of the lines that part has printed,
+                     after which there may be budget=N
   codes --help       print this text
   codes --version    print the version
 
@@ -19,7 +20,7 @@ After run, resume and summary there may be
   round=N    blocks of a round of a search, 1 to 2^20 (256)
   budget=N   blocks of a search, 0 to 2^40 (2^20)
 and after run and resume
-  keep=yes   store a checkpoint after each round, in codes.slot0 and codes.slot1;
+  keep=yes   store a checkpoint after each round in codes.slot0 and codes.slot1;
              the session pauses while there is a file codes.stop. Else keep=no
   slice=N    with keep=yes, pause after N blocks, 1 to 2^40
 

@@ -13,8 +13,8 @@ use Rattle.std.specs.Cmp.Lexicographic.{slice_cmp}
 use Rattle.std.specs.Str.{bytes_eq}
 use Rattle.std.proofs.lemmas.Map.Text.{btree_map_updates_text}
 use Rattle.std.proofs.lemmas.Slice.Eq.{bytes_eq-Decides}
-use Rattle.lc_io.specs.Folders.{Contents, IsMade, IsTouched}
-use Rattle.lc_io.specs.MemoryFolders.{contents_of}
+use Rattle.lc_io.specs.Folders.{IsMade}
+use Rattle.lc_io.specs.MemoryFolders.{IsCleared, contents_of}
 
 not_from : (b : Bool) → (b ≡ true → ⊥) → b ≡ false
 not_from b not = ⊎_elim (λ (t : b ≡ true). absurd (not t)) (λ (f : b ≡ false). f) (cases_Bool b)
@@ -34,8 +34,8 @@ module _ {Y Z : Type 0} (name : List ℕ) (old new : BTreeMap (String Y) (Vec �
 pub made : {Y Z : Type 0} (name : List ℕ) (old new : BTreeMap (String Y) (Vec ℕ Z)) (v : Vec ℕ Z) → UpdatesBy string_cmp (λ k. slice_cmp nat_cmp name (string_bytes k)) old new (Some v) → IsMade name v.items (contents_of old) (contents_of new)
 made name old new v u = record { made = set_here name old new (Some v) u; others = set_elsewhere name old new (Some v) u }
 
-pub cleared : {Y Z : Type 0} (name : List ℕ) (old new : BTreeMap (String Y) (Vec ℕ Z)) → UpdatesBy string_cmp (λ k. slice_cmp nat_cmp name (string_bytes k)) old new None → (contents_of new name ≡ None) × IsTouched name (contents_of old) (contents_of new)
-cleared name old new u = (set_here name old new None u, set_elsewhere name old new None u)
+pub cleared : {Y Z : Type 0} (name : List ℕ) (old new : BTreeMap (String Y) (Vec ℕ Z)) → UpdatesBy string_cmp (λ k. slice_cmp nat_cmp name (string_bytes k)) old new None → IsCleared name (contents_of old) (contents_of new)
+cleared name old new u = record { gone = set_here name old new None u; others = set_elsewhere name old new None u }
 
 pub found : {Y Z : Type 0} (name : List ℕ) (files : BTreeMap (String Y) (Vec ℕ Z)) (r : Option (Bor (Vec ℕ Z))) → option_copied r ≡ get_by_text files name → contents_of files name ≡ option_map (λ (v : Bor (Vec ℕ Z)). v.now.items) r
 found name files None e = ap (option_map (λ v. v.items)) (sym e)

@@ -2,6 +2,8 @@
 --   Contents                       the bytes of the file that has a name, None if no file has it
 --   held files name                the bytes at this name; a name that no file has holds none
 --   Known told P                   P holds of what a folder tells, if it tells it
+--   FailsBy kind result            a call failed with an error of this kind
+--   FailsOnlyBy kind result        a call gave its answer, or failed with an error of this kind
 --   Opens told name given          a reader that gives these bytes was opened: they are those of the file with this name
 --   LoadsFile told name old new n  a load into a buffer answered n: the front of what the name holds, as much as fits, is at the front
 --                                  of the buffer, and the rest of the buffer is as it was
@@ -25,7 +27,10 @@
 --   name_among slot zero one       the name of the file of a slot, of these two
 --   slots_in zero one told         the slots of a vault of files with these names
 --   IsPutOrNot slot bytes old new  these bytes replaced this slot, or both are as they were
-use Rattle.std.specs.Prelude.{◌≡◌, ◌≢◌, ◌⊎◌, ◌≤◌, ◌++◌, ℕ, List, [], codes, length, take, drop, min, Option, Some, None, option_map}
+use Rattle.std.specs.Prelude.{◌≡◌, ◌≢◌, ◌⊎◌, ◌≤◌, ◌++◌, ℕ, List, [], codes, length, take, drop, min, Option, Some, None, option_map, Result, IfErr, IsErrAnd}
+use Rattle.std_io.specs.IoError.{error_kind}
+use Rattle.std_io.specs.declared.io.error.Error.{Error}
+use Rattle.std_io.specs.declared.io.kind.ErrorKind.{ErrorKind}
 use Rattle.lc_io.specs.Vaults.{Slots, put}
 use Rattle.lc_io.specs.declared.vault.Slot.{Slot}
 use Rattle.lc_io.specs.declared.vault.Slot.TheVariants.{Zero, One}
@@ -44,6 +49,12 @@ held files name = bytes_of (files name)
 abbrev pub Known : Option Contents → (Contents → Type 0) → Type 0
 Known None P = Unit {0}
 Known (Some files) P = P files
+
+abbrev pub FailsBy : {T : Type 0} → ErrorKind → Result T Error → Type 0
+FailsBy kind result = IsErrAnd result (λ e. error_kind e ≡ kind)
+
+abbrev pub FailsOnlyBy : {T : Type 0} → ErrorKind → Result T Error → Type 0
+FailsOnlyBy kind result = IfErr result (λ e. error_kind e ≡ kind)
 
 -- what the reader gives is told, and is all that the file with this name has
 abbrev pub Opens : Option Contents → List ℕ → Option (List ℕ) → Type 0

@@ -4,7 +4,7 @@ ghost use Rattle.std.specs.Io.KnownBytes.{Appends};
 ghost use Rattle.std_io.specs.IoError.{error_kind};
 ghost use Rattle.lc_io.specs.Outside.{AppendsPart};
 ghost use Rattle.lc_io.specs.Vaults.{WhereTold};
-ghost use Rattle.lc_io.specs.Folders.{Known, IsNew, IsWrittenOn, KeepsName, Opens, IsKept, TouchesOnly, IsTouched, IsMoved, IsMovedOrNot};
+ghost use Rattle.lc_io.specs.Folders.{Known, IsNew, IsWrittenOn, KeepsName, Opens, IsKept, TouchesOnly, IsTouched, IsMoved, IsMovedOrNot, FailsBy};
 
 use crate::{Failed, WriterSink, write_whole};
 use std::fs::{Files, OpenFile};
@@ -39,12 +39,14 @@ pub trait Folder {
     /// A new file that is open for writing.
     type Writer: NewFile + Drop;
 
-    /// Opens a file. If the folder tells what it holds, the reader gives all bytes of the file, and the error is `NotFound` only if there
-    /// is no file.
+    /// Opens a file. If the folder tells what it holds, the reader gives all bytes of the file, and the answer is the error `NotFound`
+    /// exactly if there is no file.
     fn open_reader(&self, name: &str) -> io::Result<Self::Reader>
         ensures opened { IfOk result (λ file. Opens (files self.now) name.now (Self.Reader.remaining file)) }
         ensures missing { IfErr result (λ error. error_kind error ≡ ErrorKind.NotFound
-            → Known (files self.now) (λ contents. contents name.now ≡ None)) };
+            → Known (files self.now) (λ contents. contents name.now ≡ None)) }
+        ensures absent { Known (files self.now) (λ contents. contents name.now ≡ None
+            → FailsBy ErrorKind.NotFound result) };
 
     /// Removes what has this name, and changes no other file. (That it is gone then is no clause: whoever makes a file of this
     /// name next learns it.)
@@ -56,12 +58,12 @@ pub trait Folder {
         ensures created { IfOk result (λ file. IsNew (files self.old) name.now (Self.Writer.written file)) }
         ensures others { WhereTold (files self.old) (files self.new) (IsTouched name.now) };
 
-    /// Waits until the disk has what was written to a file that this folder made. Only then does the file have these bytes: one that
-    /// is not kept may hold any.
-    fn keep(&mut self, file: &Self::Writer) -> io::Result<()>
+    /// Waits until the disk has what was written to a file that this folder made, and closes it: nothing can be written to it
+    /// afterwards. Only then does the file have these bytes: one that is not kept may hold any.
+    fn keep(&mut self, file: Self::Writer) -> io::Result<()>
         ensures kept { OnOk result
-            (WhereTold (files self.old) (files self.new) (IsKept (Self.Writer.written file.now))) }
-        ensures others { WhereTold (files self.old) (files self.new) (TouchesOnly (Self.Writer.written file.now)) };
+            (WhereTold (files self.old) (files self.new) (IsKept (Self.Writer.written file))) }
+        ensures others { WhereTold (files self.old) (files self.new) (TouchesOnly (Self.Writer.written file)) };
 
     /// Gives the file `from` the name `to`, in place of one that has it. A call that fails has done so all the same, or changes nothing.
     fn move_file(&mut self, from: &str, to: &str) -> io::Result<()>
@@ -113,7 +115,7 @@ impl<R: Files> Folder for R {
         Ok(WriterSink::new(fs::File::create_new(self, name)?))
     }
 
-    fn keep(&mut self, file: &WriterSink<<R as Files>::File>) -> io::Result<()> {
+    fn keep(&mut self, file: WriterSink<<R as Files>::File>) -> io::Result<()> {
         file.get_ref().sync_all()
     }
 

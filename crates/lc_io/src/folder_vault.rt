@@ -1,9 +1,9 @@
 // A vault of two files.
-ghost use Rattle.std.specs.Prelude.{◌≡◌, ◌<◌, ◌≤◌, length, take, drop, IfOk, OnOk, OnErr, MatchResult};
+ghost use Rattle.std.specs.Prelude.{◌≡◌, ◌<◌, ◌≤◌, length, take, drop, None, IfOk, IsOk, OnOk, OnErr, MatchResult};
 ghost use Rattle.std.specs.Io.KnownBytes.{Consumes, IsAtEnd};
 ghost use Rattle.lc_io.specs.Outside.{HasRisen};
 ghost use Rattle.lc_io.specs.Vaults.{WhereTold, IsPut, IsTorn, Loads};
-ghost use Rattle.lc_io.specs.Folders.{AreApart, IsMade, IsPutOrNot, IsReplacedOrNot, IsTouched, LoadsFile, Replaces, next_of, name_among, slots_in};
+ghost use Rattle.lc_io.specs.Folders.{AreApart, IsMade, IsPutOrNot, IsReplacedOrNot, IsTouched, Known, LoadsFile, Replaces, next_of, name_among, slots_in};
 
 use crate::{Failed, Folder, NewFile, NoMemory, ReaderSource, Slot, Source, Vault, read_to_limit};
 use std::alloc::Global;
@@ -126,6 +126,7 @@ fn load_file<R: Folder>(
 ) -> Result<usize, Failed>
     ensures bound { IfOk result (λ n. n ≤ length buf.old) }
     ensures gave { IfOk result (λ n. LoadsFile (R.files folder.now) name.now buf.old buf.new n) }
+    ensures absent { Known (R.files folder.now) (λ files. files name.now ≡ None → IsOk result) }
     ensures untouched { OnErr result (buf.new ≡ buf.old) }
 {
     match folder.open_reader(name) {
@@ -135,7 +136,7 @@ fn load_file<R: Folder>(
     }
 }
 
-// Makes a new file of these bytes, in place of what has the name, and waits until the disk has them.
+// Makes a new file of these bytes, in place of what has the name, waits until the disk has them, and closes it.
 #[tactic(auto, using(crate::proofs::FolderLaws::made_file, crate::proofs::FolderLaws::torn_file))]
 fn make_file<R: Folder>(folder: &mut R, name: &str, bytes: &[u8]) -> Result<(), Failed>
     ensures made { OnOk result (WhereTold (R.files folder.old) (R.files folder.new) (IsMade name.now bytes.now)) }
@@ -146,7 +147,7 @@ fn make_file<R: Folder>(folder: &mut R, name: &str, bytes: &[u8]) -> Result<(), 
         return Err(Failed);
     };
     file.put(bytes)?;
-    match folder.keep(&file) {
+    match folder.keep(file) {
         Ok(()) => Ok(()),
         Err(_) => Err(Failed),
     }
@@ -173,7 +174,18 @@ impl<R: Folder + Drop> Vault for FolderVault<R> {
     ghost faults = { λ v. v.faults };
 
     /// Reads the file once. A file that isn't there is no fault.
-    fn load(&mut self, slot: Slot, buf: &mut [u8]) -> Result<usize, Failed> {
+    fn load(&mut self, slot: Slot, buf: &mut [u8]) -> Result<usize, Failed>
+        ensures bound { IfOk result (λ n. n ≤ length buf.old) }
+        ensures gave { IfOk result
+            (λ n. Loads (slots_in self.old.zero self.old.one (R.files self.old.folder)) slot buf.old buf.new n) }
+        ensures same { slots_in self.new.zero self.new.one (R.files self.new.folder)
+            ≡ slots_in self.old.zero self.old.one (R.files self.old.folder) }
+        ensures untouched { OnErr result (buf.new ≡ buf.old) }
+        ensures count { MatchResult result (λ _. self.new.faults ≡ self.old.faults)
+            (λ _. HasRisen self.old.faults self.new.faults) }
+        ensures absent { Known (R.files self.old.folder)
+            (λ files. files (name_among slot self.old.zero self.old.one) ≡ None → IsOk result) }
+    {
         let file = file_of(&self.zero, &self.one, slot);
         match load_file(&self.rt, self.alloc, file.name(), buf) {
             Ok(count) => Ok(count),

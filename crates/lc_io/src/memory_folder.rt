@@ -1,10 +1,11 @@
 // A folder in memory.
-ghost use Rattle.std.specs.Prelude.{◌≡◌, ◌↔◌, ℕ, List, Option, None, Some, true, OnOk, OnErr, IfOk, IfErr, IsOk, IsErr, IsSome};
+ghost use Rattle.std.specs.Prelude.{◌≡◌, ◌⊎◌, ◌↔◌, ℕ, List, [], Option, None, Some, true, option_map, OnOk, OnErr, IfOk, IfErr, IsOk, IsErr, IsSome, string_bytes};
+ghost use Rattle.std.specs.Io.Cursor.{cursor_remaining};
 ghost use Rattle.std_io.specs.IoError.{error_kind};
 ghost use Rattle.lc_io.specs.Memory.{IsFailing};
-ghost use Rattle.lc_io.specs.MemoryFolders.{HoldsSame, files_in};
+ghost use Rattle.lc_io.specs.MemoryFolders.{HoldsSame, IsCleared, IsCounted, IsHalfKept, LacksMemory, files_in};
 ghost use Rattle.lc_io.specs.Vaults.{WhereTold};
-ghost use Rattle.lc_io.specs.Folders.{Known, IsMade, IsTouched, IsKept, IsMoved, IsMovedOrNot, IsNew, IsWrittenOn, KeepsName, Opens, TouchesOnly};
+ghost use Rattle.lc_io.specs.Folders.{FailsBy, FailsOnlyBy, Known, IsMade, IsTouched, IsKept, IsMoved, IsMovedOrNot, IsNew, IsWrittenOn, KeepsName, Opens, TouchesOnly};
 
 use crate::calls::Schedule;
 use crate::{Failed, Folder, NewFile, NoMemory};
@@ -35,7 +36,12 @@ impl NewFile for MemoryFile {
 
     ghost written = { λ f. Some f };
 
-    fn put(&mut self, bytes: &[u8]) -> Result<(), Failed> {
+    /// Fails only if memory runs out. Then nothing is written.
+    fn put(&mut self, bytes: &[u8]) -> Result<(), Failed>
+        ensures put { OnOk result (WhereTold (Some self.old) (Some self.new) (IsWrittenOn bytes.now)) }
+        ensures torn { OnErr result (WhereTold (Some self.old) (Some self.new) KeepsName) }
+        ensures same { OnErr result (self.new ≡ self.old) }
+    {
         match self.bytes.extend_from_slice(bytes) {
             Ok(()) => Ok(()),
             Err(_) => Err(Failed),
@@ -44,8 +50,8 @@ impl NewFile for MemoryFile {
 }
 
 /// A folder that has its files in memory and tells what they hold. Removing, making, keeping and renaming a file fail at the calls
-/// that it was made to fail at, and for want of memory; removing and renaming also if there is no such file, and making if there is
-/// one.
+/// that it was made to fail at, and for want of memory, but for removing, which takes none; removing and renaming also if there is no
+/// such file, and making if there is one. A call that fails changes nothing, but for one that is to keep a file.
 #[derive(Drop)]
 pub struct MemoryFolder {
     alloc: Global,
@@ -70,6 +76,8 @@ impl MemoryFolder {
     // Counts a call, which fails if its number says so.
     fn pass(&mut self) -> io::Result<()>
         ensures fails { IsErr result ↔ IsFailing self.old.calls }
+        ensures other { FailsOnlyBy ErrorKind.Other result }
+        ensures calls { IsCounted self.old.calls self.new.calls }
         ensures same { HoldsSame (files_in self.old) (files_in self.new) }
     {
         match self.calls.count(true) {
@@ -78,29 +86,33 @@ impl MemoryFolder {
         }
     }
 
-    // Makes a file of these bytes, in place of one that has the name.
-    fn set(&mut self, name: &str, bytes: Vec<u8>) -> io::Result<()>
-        ensures made { OnOk result (IsMade name.now bytes.items (files_in self.old) (files_in self.new)) }
+    // Makes a file of these bytes, in place of one that has the name. Fails only if there is none and memory runs out.
+    fn set(&mut self, name: String, bytes: Vec<u8>) -> io::Result<()>
+        ensures made { OnOk result (IsMade (string_bytes name) bytes.items (files_in self.old) (files_in self.new)) }
+        ensures fails { FailsOnlyBy ErrorKind.OutOfMemory result }
+        ensures absent { OnErr result (files_in self.old (string_bytes name) ≡ None) }
         ensures same { OnErr result (HoldsSame (files_in self.old) (files_in self.new)) }
+        ensures calls { self.new.calls ≡ self.old.calls }
     {
-        let name = String::from_str(self.alloc, name)?;
         self.files.insert(name, bytes)?;
         Ok(())
     }
 
-    // Removes the file with this name, if there is one.
+    // Removes the file with this name, if there is one, and returns its bytes.
     fn clear(&mut self, name: &str) -> Option<Vec<u8>>
-        ensures gone { files_in self.new name.now ≡ None }
-        ensures others { IsTouched name.now (files_in self.old) (files_in self.new) }
+        ensures bytes { option_map (λ bytes. bytes.items) result ≡ files_in self.old name.now }
+        ensures cleared { IsCleared name.now (files_in self.old) (files_in self.new) }
+        ensures calls { self.new.calls ≡ self.old.calls }
     {
         self.files.remove(name)
     }
 
-    // A copy of the bytes of a file.
+    // A copy of the bytes of a file. Fails if there is no file, and if memory runs out for the copy.
     #[tactic(auto, using(crate::proofs::MemoryLaws::found))]
     fn copied(&self, name: &str) -> io::Result<Vec<u8>>
         ensures bytes { IfOk result (λ bytes. files_in self.now name.now ≡ Some bytes.items) }
-        ensures missing { IfErr result (λ e. error_kind e ≡ ErrorKind.NotFound → files_in self.now name.now ≡ None) }
+        ensures missing { files_in self.now name.now ≡ None → FailsBy ErrorKind.NotFound result }
+        ensures refused { IsSome (files_in self.now name.now) → FailsOnlyBy ErrorKind.OutOfMemory result }
     {
         match self.files.get(name) {
             Some(bytes) => Ok(bytes.to_vec(self.alloc)?),
@@ -126,11 +138,30 @@ impl Folder for MemoryFolder {
 
     type Writer = MemoryFile;
 
-    fn open_reader(&self, name: &str) -> io::Result<Cursor<Vec<u8>>> {
+    /// Fails exactly if there is no such file, or for want of memory.
+    fn open_reader(&self, name: &str) -> io::Result<Cursor<Vec<u8>>>
+        ensures opened { IfOk result (λ file. Opens (Some (files_in self.now)) name.now
+            (cursor_remaining (λ bytes. Some bytes.items) file)) }
+        ensures missing { IfErr result (λ error. error_kind error ≡ ErrorKind.NotFound
+            → Known (Some (files_in self.now)) (λ contents. contents name.now ≡ None)) }
+        ensures absent { Known (Some (files_in self.now)) (λ contents. contents name.now ≡ None
+            → FailsBy ErrorKind.NotFound result) }
+        ensures refused { IsSome (files_in self.now name.now) → FailsOnlyBy ErrorKind.OutOfMemory result }
+    {
         Ok(Cursor::new(self.copied(name)?))
     }
 
-    fn remove(&mut self, name: &str) -> io::Result<()> {
+    /// Fails exactly if the number of the call is one that fails, or there is no such file. Takes no memory.
+    fn remove(&mut self, name: &str) -> io::Result<()>
+        ensures others { WhereTold (Some (files_in self.old)) (Some (files_in self.new)) (IsTouched name.now) }
+        ensures failing { IsFailing self.old.calls → FailsBy ErrorKind.Other result }
+        ensures missing { ¬ (IsFailing self.old.calls) → files_in self.old name.now ≡ None
+            → FailsBy ErrorKind.NotFound result }
+        ensures always { ¬ (IsFailing self.old.calls) → IsSome (files_in self.old name.now) → IsOk result }
+        ensures gone { OnOk result (IsCleared name.now (files_in self.old) (files_in self.new)) }
+        ensures same { OnErr result (HoldsSame (files_in self.old) (files_in self.new)) }
+        ensures calls { IsCounted self.old.calls self.new.calls }
+    {
         self.pass()?;
         match self.clear(name) {
             Some(_) => Ok(()),
@@ -138,7 +169,19 @@ impl Folder for MemoryFolder {
         }
     }
 
-    fn open_writer(&mut self, name: &str) -> io::Result<MemoryFile> {
+    /// Fails exactly if the number of the call is one that fails, or there is such a file, or for want of memory.
+    fn open_writer(&mut self, name: &str) -> io::Result<MemoryFile>
+        ensures created { IfOk result (λ file. IsNew (Some (files_in self.old)) name.now (Some file)) }
+        ensures others { WhereTold (Some (files_in self.old)) (Some (files_in self.new)) (IsTouched name.now) }
+        ensures failing { IsFailing self.old.calls → FailsBy ErrorKind.Other result }
+        ensures exists { ¬ (IsFailing self.old.calls) → IsSome (files_in self.old name.now)
+            → FailsBy ErrorKind.AlreadyExists result }
+        ensures refused { ¬ (IsFailing self.old.calls) → files_in self.old name.now ≡ None
+            → FailsOnlyBy ErrorKind.OutOfMemory result }
+        ensures made { OnOk result (IsMade name.now [] (files_in self.old) (files_in self.new)) }
+        ensures same { OnErr result (HoldsSame (files_in self.old) (files_in self.new)) }
+        ensures calls { IsCounted self.old.calls self.new.calls }
+    {
         self.pass()?;
         if self.has(name) {
             return Err(io::Error::from(ErrorKind::AlreadyExists));
@@ -147,31 +190,59 @@ impl Folder for MemoryFolder {
             name: String::from_str(self.alloc, name)?,
             bytes: Vec::new(self.alloc),
         };
-        self.set(name, Vec::new(self.alloc))?;
+        self.set(String::from_str(self.alloc, name)?, Vec::new(self.alloc))?;
         Ok(file)
     }
 
-    /// A call that fails leaves the first half of the bytes, rounded down.
-    fn keep(&mut self, file: &MemoryFile) -> io::Result<()> {
+    /// Fails exactly if the number of the call is one that fails, or for want of memory, which is taken only if no file has the name
+    /// any more. A call that fails by its number leaves the first half of the bytes, rounded down.
+    fn keep(&mut self, file: MemoryFile) -> io::Result<()>
+        ensures kept { OnOk result
+            (WhereTold (Some (files_in self.old)) (Some (files_in self.new)) (IsKept (Some file))) }
+        ensures others { WhereTold (Some (files_in self.old)) (Some (files_in self.new)) (TouchesOnly (Some file)) }
+        ensures failing { IsFailing self.old.calls → IsErr result }
+        ensures torn { IfErr result (λ error.
+            (IsFailing self.old.calls × IsHalfKept file error (files_in self.old) (files_in self.new))
+            ⊎ LacksMemory file error (files_in self.old) (files_in self.new)) }
+        ensures calls { IsCounted self.old.calls self.new.calls }
+    {
+        let MemoryFile { name, mut bytes } = file;
         if let Err(fault) = self.pass() {
-            let half = file.bytes[..file.bytes.len() / 2].to_vec(self.alloc)?;
-            self.set(file.name.as_str(), half)?;
+            bytes.truncate(bytes.len() / 2);
+            self.set(name, bytes)?;
             return Err(fault);
         }
-        self.set(file.name.as_str(), file.bytes.to_vec(self.alloc)?)
+        self.set(name, bytes)
     }
 
-    fn move_file(&mut self, from: &str, to: &str) -> io::Result<()> {
+    /// Fails exactly if the number of the call is one that fails, or there is no such file, or for want of memory.
+    fn move_file(&mut self, from: &str, to: &str) -> io::Result<()>
+        ensures moved { OnOk result
+            (WhereTold (Some (files_in self.old)) (Some (files_in self.new)) (IsMoved from.now to.now)) }
+        ensures torn { OnErr result
+            (WhereTold (Some (files_in self.old)) (Some (files_in self.new)) (IsMovedOrNot from.now to.now)) }
+        ensures failing { IsFailing self.old.calls → FailsBy ErrorKind.Other result }
+        ensures missing { ¬ (IsFailing self.old.calls) → files_in self.old from.now ≡ None
+            → FailsBy ErrorKind.NotFound result }
+        ensures refused { ¬ (IsFailing self.old.calls) → IsSome (files_in self.old from.now)
+            → FailsOnlyBy ErrorKind.OutOfMemory result }
+        ensures same { OnErr result (HoldsSame (files_in self.old) (files_in self.new)) }
+        ensures calls { IsCounted self.old.calls self.new.calls }
+    {
         self.pass()?;
         let bytes = self.copied(from)?;
-        self.set(to, bytes)?;
+        self.set(String::from_str(self.alloc, to)?, bytes)?;
         if from != to {
             let _ = self.clear(from);
         }
         Ok(())
     }
 
-    fn look_for(&self, name: &str) -> io::Result<()> {
+    /// The error says that there is no such file.
+    fn look_for(&self, name: &str) -> io::Result<()>
+        ensures found { Known (Some (files_in self.now)) (λ contents. IsOk result ↔ IsSome (contents name.now)) }
+        ensures missing { FailsOnlyBy ErrorKind.NotFound result }
+    {
         if self.has(name) {
             Ok(())
         } else {

@@ -1,10 +1,11 @@
 -- The lines of parts in some bytes.
 --   numbered_read, numbered_none     a line that is read as that of a part, or isn't
+--   only_headed                  bytes that are read as the line of a part begin with their seal
 --   newline_split, newline_none      the lines before and after the first newline; bytes without a newline
 --   lines_first, lines_more, lines_end       before the first line, after one more, and after the last one
 --   no_lines                     no bytes have no line of a part
 use Rattle.std.proofs.Common.{◌≡◌, ℕ, ◌+◌, ◌<◌, ◌==◌, Bool, true, false, List, [], ◌∷◌, ◌++◌, length, map, take, drop, Option, Some, None, refl, sym, ap, ap₂, subst, ◌∙◌, arith}
-use Rattle.std.specs.Prelude.{Result, Ok, Err, cond, nat_lt}
+use Rattle.std.specs.Prelude.{Result, Ok, Err, IsOk, cond, nat_lt}
 use Rattle.std.specs.List.{cons_option, slice_split, position, position_or_len}
 use Rattle.std.proofs.lemmas.Bool.{ltb-true, ltb-false}
 use Rattle.std.proofs.lemmas.List.{append_assoc}
@@ -26,6 +27,13 @@ numbered_read number r l x e h = ap (numbered number) (sym (ap read_of e) ∙ h)
 pub numbered_none : (number : ℕ) (r : Result PartLine LineRefusal) (e : LineRefusal) (x : ReadLine) → r ≡ Err e → read_of r ≡ x → None ≡ numbered number x
 unfolding numbered read_of
 numbered_none number r e x f h = ap (numbered number) (sym (ap read_of f) ∙ h)
+
+unheaded_none : (number : ℕ) (bytes : List ℕ) → is_headed bytes ≡ false → numbered number (part_in bytes) ≡ None
+unfolding numbered part_in
+unheaded_none number bytes e = rw e refl
+
+pub only_headed : {T E : Type 0} (number : ℕ) (bytes : List ℕ) (x : Numbered) (r : Result T E) → Some (numbered_of x) ≡ numbered number (part_in bytes) → is_headed bytes ≡ false → IsOk r
+only_headed number bytes x r h e = absurd (let none = unheaded_none number bytes e in cc)
 
 -- a newline
 abbrev pub ends_line : ℕ → Bool

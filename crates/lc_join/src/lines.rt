@@ -1,7 +1,7 @@
 //! The lines of parts among the lines of some bytes.
-ghost use Rattle.std.specs.Prelude.{◌≡◌, ◌==◌, ◌+◌, ◌++◌, ◌<◌, ◌≤◌, ◌^◌, [], length, map, option_map, IfOk, OnOk};
+ghost use Rattle.std.specs.Prelude.{◌≡◌, ◌==◌, ◌+◌, ◌++◌, ◌<◌, ◌≤◌, ◌^◌, false, [], length, map, option_map, IfOk, OnOk, IsOk};
 ghost use Rattle.std.specs.List.{cons_option, position};
-ghost use Rattle.lc_part_lines.specs.Line.{part_in};
+ghost use Rattle.lc_part_lines.specs.Line.{is_headed, part_in};
 ghost use Rattle.lc_join.specs.Lines.{numbered, lines_in};
 ghost use Rattle.lc_join.specs.Seen.{numbered_of};
 
@@ -23,9 +23,10 @@ fn newline_in(bytes: &[u8]) -> Option<usize>
     bytes.iter().position(|b| *b == b'\n')
 }
 
-// The line of this number, if it is that of a part.
+// The line of this number, if it is that of a part. Bytes that don't begin with their seal take no memory.
 fn numbered_line(alloc: Global, number: u64, bytes: &[u8]) -> Result<Option<Numbered>, NoMemory>
     ensures is { IfOk result (λ o. option_map numbered_of o ≡ numbered number (part_in bytes.now)) }
+    ensures damaged { is_headed bytes.now ≡ false → IsOk result }
 {
     match read(alloc, bytes)? {
         Ok(line) => Ok(Some(Numbered { number, line })),
@@ -33,10 +34,12 @@ fn numbered_line(alloc: Global, number: u64, bytes: &[u8]) -> Result<Option<Numb
     }
 }
 
-// Keeps the line of this number if it is that of a part.
+// Keeps the line of this number if it is that of a part. Bytes that don't begin with their seal take no memory.
+#[tactic(auto, using(crate::proofs::LineLaws::only_headed))]
 fn keep(alloc: Global, lines: &mut Vec<Numbered>, number: u64, bytes: &[u8]) -> Result<(), NoMemory>
     ensures kept { OnOk result (map numbered_of lines.new.items
         ≡ map numbered_of lines.old.items ++ cons_option (numbered number (part_in bytes.now)) []) }
+    ensures damaged { is_headed bytes.now ≡ false → IsOk result }
 {
     if let Some(line) = numbered_line(alloc, number, bytes)? {
         lines.push(line)?;

@@ -1,5 +1,5 @@
 //! How a session ends.
-ghost use Rattle.std.specs.Prelude.{◌≡◌, ◌++◌, IfOk, codes, decimal};
+ghost use Rattle.std.specs.Prelude.{◌≡◌, ◌++◌, [], IfOk, IsOk, codes, decimal};
 ghost use Rattle.lc_session_rules.specs.Endings.{ending_number, ending_line, said};
 ghost use Rattle.lc_session.specs.Ending.{ending_of};
 
@@ -132,9 +132,13 @@ impl Status {
     }
 }
 
-/// The line of a status, as `Status::line` gives it, in a vector. Refused only for want of memory.
+/// The line of a status, as `Status::line` gives it, in a vector. Refused only for want of memory, and never if the line is empty, as
+/// that of `Done` is.
 pub fn status_line(alloc: Global, status: &Status) -> Result<Vec<u8>, NoMemory>
-    ensures { IfOk result (λ line. line.items ≡ ending_line (ending_of status.now)) }
+    ensures is { IfOk result (λ line. line.items ≡ ending_line (ending_of status.now)) }
+    ensures empty { ending_line (ending_of status.now) ≡ [] → IsOk result }
 {
-    Ok(Vec::from_slice(alloc, status.line().as_bytes())?)
+    let mut line = Vec::new(alloc);
+    line.extend_from_slice(status.line().as_bytes())?;
+    Ok(line)
 }
