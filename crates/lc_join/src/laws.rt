@@ -81,8 +81,9 @@ pub fn joins_agree()
 /// no harm, nor does any order or repetition. The budget is at most 2^40 blocks. Then the lines make the text of a checkpoint, they
 /// lack no block, and no two of them disagree; so a session of `join` over them writes a checkpoint, unless the source, the sink or
 /// the memory fails or too many bytes come. No search needs a block beyond the budget, so parts that have all blocks of the plan
-/// below the budget, each ending within its phase, are always enough. Whoever shares out a search in ranges that lie within its phases can rely on this: once each
-/// range is done, `join` finds nothing missing. The lines that `part` prints are true (`printed_lines_are_read`).
+/// below the budget, each ending within its phase, are always enough. Whoever shares out a search in ranges that lie within its
+/// phases can rely on this: once each range is done, `join` finds nothing missing. The lines that `part` prints are true
+/// (`printed_lines_are_read`).
 pub fn parts_of_all_blocks_are_joined()
     ensures text { (digest : List ℕ) (C : Matrix) (budget : ℕ) (lines : List Numbered) → 0 < length C.rows →
         budget ≤ 2 ^ 40 → AreEnough digest C budget lines → (text : List ℕ) × HasText budget lines text }
