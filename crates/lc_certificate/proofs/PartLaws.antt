@@ -105,7 +105,7 @@ members_there (string s) e = absurd (false≢true e)
 members_there (array ds) e = absurd (false≢true e)
 members_there (object ms) e = refl
 
-version_is : (ms : Members) → number_at (codes "version") ms ≡ Some 1 → is_version 1 ms ≡ true
+pub version_is : (ms : Members) → number_at (codes "version") ms ≡ Some 1 → is_version 1 ms ≡ true
 unfolding is_version provided
 version_is ms h = ap (λ o. is_some (provided (λ v. v == 1) o)) h
 

@@ -1,5 +1,5 @@
 //! How bytes are read as a certificate.
-ghost use Rattle.std.specs.Prelude.{◌≡◌, IfOk, IfErr};
+ghost use Rattle.std.specs.Prelude.{◌≡◌, ◌≢◌, Err, IsTrue, IsSome, IsErrOf, IfOk, IfErr};
 ghost use Rattle.serde_json.specs.Find.{as_object};
 ghost use Rattle.serde_json.specs.View.{view};
 ghost use Rattle.lc_constructions.specs.Refusals.{columns_of};
@@ -7,7 +7,7 @@ ghost use Rattle.lc_formats.specs.Certificate as formats;
 ghost use Rattle.lc_formats.specs.Json.{number_at};
 ghost use Rattle.lc_formats.specs.Shape.{IsShaped};
 ghost use Rattle.lc_formats.specs.Document.{symbol_field};
-ghost use Rattle.lc_formats.specs.Check.{certificate_in, reads_as, field_at, parts_in, key_count, set_total, is_beyond_limit, closed, object_in};
+ghost use Rattle.lc_formats.specs.Check.{certificate_in, reads_as, field_at, parts_in, key_count, set_total, is_beyond_limit, closed, is_version, object_in};
 ghost use Rattle.lc_json.specs.Inside.{members_in};
 ghost use Rattle.lc_certificate.specs.Seen.{proof_of, certificate_of};
 ghost use Rattle.lc_certificate.specs.Reading.{IsRefusedAs, distance_at};
@@ -142,6 +142,7 @@ fn check_closed(object: &Value, cert: &Certificate) -> Result<(), CertRefusal>
         ≡ reads_as (certificate_of cert.now)) }
     ensures refused { IfErr result
         (λ e. IsRefusedAs e (closed (members_in (view object.now)) (reads_as (certificate_of cert.now)))) }
+    ensures told { result ≢ Err CertRefusal.NoMemory }
 {
     if !has_keys(object, key_count(&cert.basis_of)) || !are_set_keys(object) {
         return Err(CertRefusal::Shape(11));
@@ -157,6 +158,9 @@ fn check_closed(object: &Value, cert: &Certificate) -> Result<(), CertRefusal>
 pub fn certificate_from(alloc: Global, value: &Value) -> Result<Certificate, CertRefusal>
     ensures is { IfOk result (λ c. object_in (as_object (view value.now)) ≡ reads_as (certificate_of c)) }
     ensures refused { IfErr result (λ e. IsRefusedAs e (object_in (as_object (view value.now)))) }
+    // It takes memory only for an object whose version and field are right.
+    ensures needed { IsErrOf result CertRefusal.NoMemory →
+        IsTrue (is_version 1 (members_in (view value.now))) × IsSome (field_at (members_in (view value.now))) }
 {
     if !value.is_object() {
         return Err(CertRefusal::Shape(1));

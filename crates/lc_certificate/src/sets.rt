@@ -1,5 +1,5 @@
 //! Reads the sets of a certificate, and how its distance is proved.
-ghost use Rattle.std.specs.Prelude.{◌≡◌, nat_lt, is_some, ◌<◌, ◌==◌, map, All, Option, option_map, IfOk, IfErr};
+ghost use Rattle.std.specs.Prelude.{◌≡◌, nat_lt, is_some, ◌<◌, ◌==◌, map, All, Option, option_map, Some, false, IsErrOf, IfOk, IfErr};
 ghost use Rattle.std.specs.List.{list_all};
 ghost use Rattle.std.specs.List.Sorted.{IsStrictlyIncreasing};
 ghost use Rattle.serde_json.specs.Find.{as_object};
@@ -215,6 +215,7 @@ pub(crate) fn proof_at(alloc: Global, object: &Value, n: u64) -> Result<Proof, C
         ≡ reads_as (make (proof_of p))) }
     ensures refused { IfErr result (λ e. (make : formats.Proof → formats.Certificate)
         → IsRefusedAs e (way_in (members_in (view object.now)) n make (way_at (members_in (view object.now))))) }
+    ensures needed { IsErrOf result CertRefusal.NoMemory → way_at (members_in (view object.now)) ≡ Some false }
 {
     match way_at(object) {
         Some(true) => {

@@ -1,5 +1,5 @@
 //! The certificate of a search.
-ghost use Rattle.std.specs.Prelude.{◌≡◌, ◌^◌, ◌≤◌, IfOk};
+ghost use Rattle.std.specs.Prelude.{◌≡◌, ◌^◌, ◌≤◌, IfOk, IsOk};
 ghost use Rattle.lc_algebra.specs.Word.{IsWord};
 ghost use Rattle.lc_formats.specs.Certificate.{cost, IsValid};
 ghost use Rattle.lc_formats.specs.Shape.{IsShaped};
@@ -32,6 +32,7 @@ fn rows_of(alloc: Global, matrix: &Matrix) -> Result<Vec<Word>, NoMemory>
 #[tactic(auto, using(crate::proofs::ClaimLaws::proof_by_laws))]
 fn proof_by(alloc: Global, way: Way, search: &Search) -> Result<Proof, NoMemory>
     ensures is { IfOk result (λ p. seen_proof p ≡ proof_of (kind_of way) search.now.code search.now.progress.blocks) }
+    ensures scan { way ≡ Way.Scan → IsOk result }
 {
     match way {
         Way::Scan => Ok(Proof::Scan),

@@ -1,7 +1,7 @@
 //! The reasons that come before the seen words: what the check costs, the word, and the sets.
 
-ghost use Rattle.std.specs.Prelude.{◌≡◌, ◌≤◌, length, map, not, All, None, IfOk};
-ghost use Rattle.lc_formats.specs.Certificate.{Certificate as FormatsCertificate, Verdict as FormatsVerdict, levels, bound_short, claimed_sum as claimed_sum_of, first_dependent as first_dependent_of, cost as cost_of, reaches, or_else, when, set_reasons};
+ghost use Rattle.std.specs.Prelude.{◌≡◌, ◌≤◌, length, map, not, All, None, IfOk, IsOk};
+ghost use Rattle.lc_formats.specs.Certificate.{Certificate as FormatsCertificate, Verdict as FormatsVerdict, scan, levels, bound_short, claimed_sum as claimed_sum_of, first_dependent as first_dependent_of, cost as cost_of, reaches, or_else, when, set_reasons};
 ghost use Rattle.lc_algebra.specs.Matrix.{Matrix as MatrixValue};
 ghost use Rattle.lc_formats.specs.Shape.{IsShaped, IsShapedSet};
 ghost use Rattle.lc_certificate.specs.Seen.{certificate_of, claim_of};
@@ -53,6 +53,7 @@ pub(crate) fn cost(alloc: Global, cert: &Certificate, code: &Matrix) -> Result<u
     requires shaped { IsShaped (certificate_of cert.now) }
     requires code { IsCodeOf (certificate_of cert.now) code.now }
     ensures is { IfOk result (λ n. n ≡ capped (cost_of (certificate_of cert.now))) }
+    ensures scan { (certificate_of cert.now).proof ≡ scan → IsOk result }
 {
     let k = code.rows();
     let q = cert.field_size();
@@ -78,6 +79,7 @@ pub(crate) fn set_reason(
     ensures is { IfOk result
         (λ o. (later : FormatsVerdict) → set_reasons (certificate_of cert.now) (certificate_of cert.now).proof later
         ≡ or_else (reasons_of o) later) }
+    ensures scan { (certificate_of cert.now).proof ≡ scan → IsOk result }
 {
     match &cert.basis_of {
         Proof::Scan => Ok(None),

@@ -1,7 +1,7 @@
 //! The sets of a certificate by levels: whether each is an information set, whether their fresh coordinates are apart, and what
 //! their levels give.
 
-ghost use Rattle.std.specs.Prelude.{◌≡◌, ℕ, cond, ◌+◌, ◌-◌, ◌<◌, ◌≤◌, max, min, length, map, count_by, All, Some, None, IfOk};
+ghost use Rattle.std.specs.Prelude.{◌≡◌, ℕ, cond, ◌+◌, ◌-◌, ◌<◌, ◌≤◌, max, min, length, map, count_by, All, Some, None, IfOk, IfErr};
 ghost use Rattle.lc_algebra.specs.Divisor.{divisor_of, rounded};
 ghost use Rattle.lc_enumeration.specs.InformationSet.{is_member};
 ghost use Rattle.lc_enumeration.specs.Search.{bound_sum};
@@ -37,6 +37,7 @@ pub(crate) fn first_dependent(
 fn is_information_set(alloc: Global, code: &Matrix, basis: &[u64]) -> Result<bool, NoMemory>
     requires inside { All (λ c. c < code.now.columns) basis.now }
     ensures is { IfOk result (λ b. (c : Certificate) → IsCodeOf c code.now → b ≡ is_information_set c basis.now) }
+    ensures needed { IfErr result (λ _. length basis.now ≡ length code.now.rows) }
 {
     if basis.len() != code.rows() {
         return Ok(false);

@@ -1,8 +1,8 @@
 //! Reads claims with their parts.
-ghost use Rattle.std.specs.Prelude.{◌≡◌, codes, option_map, option_and_then, IfOk};
+ghost use Rattle.std.specs.Prelude.{◌≡◌, ◌<◌, codes, option_map, option_and_then, IsSome, IfOk, IfErr};
 ghost use Rattle.serde_json.specs.View.{view};
 ghost use Rattle.lc_formats.specs.Json.{number_at};
-ghost use Rattle.lc_formats.specs.Document.{symbol_field, of_pair, of_concat, of_subcode, of_places, of_extend, claim_from};
+ghost use Rattle.lc_formats.specs.Document.{symbol_field, of_pair, of_concat, of_subcode, of_places, of_extend, kind_at, object_at, claim_from};
 ghost use Rattle.lc_json.specs.Inside.{members_in};
 ghost use Rattle.lc_certificate.specs.Trees.{pair_of, place_of, claim_of};
 ghost use Rattle.lc_documents.specs.Parts.{part_of, kind_claim};
@@ -27,6 +27,7 @@ fn claim_from(
     field: FieldName,
 ) -> Result<Option<Claim>, NoMemory>
     ensures is { IfOk result (λ o. option_map claim_of o ≡ claim_from most field (members_in (view object.now))) }
+    ensures needed { IfErr result (λ _. (0 < most) × IsSome (kind_at (members_in (view object.now)))) }
 {
     if most == 0 {
         return Ok(None);
@@ -56,6 +57,7 @@ pub(crate) fn part_of(
     field: FieldName,
 ) -> Result<Option<Claim>, NoMemory>
     ensures is { IfOk result (λ o. option_map claim_of o ≡ part_of most field key.now (members_in (view object.now))) }
+    ensures needed { IfErr result (λ _. IsSome (object_at key.now (members_in (view object.now)))) }
 {
     let Some(part) = object_at(object, key) else {
         return Ok(None);

@@ -1,5 +1,5 @@
 //! How bytes are read as a certificate of either version.
-ghost use Rattle.std.specs.Prelude.{◌≡◌, ◌<◌, codes, option_and_then, option_map, IfOk, IfErr};
+ghost use Rattle.std.specs.Prelude.{◌≡◌, ◌≢◌, ◌<◌, codes, option_and_then, option_map, Err, IsSome, IsErrOf, IfOk, IfErr};
 ghost use Rattle.serde_json.specs.Data.{members_depth};
 ghost use Rattle.serde_json.specs.Find.{as_object};
 ghost use Rattle.serde_json.specs.View.{view};
@@ -60,6 +60,7 @@ fn check_closed(value: &Value, built: &Built) -> Result<(), CertRefusal>
         (λ _. tree_closed (members_in (view value.now)) (built_of built.now) ≡ document (tree (built_of built.now))) }
     ensures refused { IfErr result
         (λ e. IsUnreadAs e (tree_closed (members_in (view value.now)) (built_of built.now))) }
+    ensures told { result ≢ Err CertRefusal.NoMemory }
 {
     if !has_keys(value, 5) || !are_sets_closed(value) {
         return Err(CertRefusal::Shape(11));
@@ -78,6 +79,7 @@ fn built_from(alloc: Global, value: &Value) -> Result<Built, CertRefusal>
         ≡ document (tree (built_of b))) }
     ensures refused { IfErr result
         (λ e. IsUnreadAs e (tree_field_in (members_in (view value.now)) (field_at (members_in (view value.now))))) }
+    ensures needed { IsErrOf result CertRefusal.NoMemory → IsSome (field_at (members_in (view value.now))) }
 {
     let Some(field) = field_at(value) else {
         return Err(CertRefusal::Shape(3));

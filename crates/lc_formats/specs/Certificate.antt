@@ -6,14 +6,15 @@
 --   Verdict                  accepted, or rejected for a reason
 --   code_dimension c         the dimension k of the span of the rows
 --   level_in c claim         the stated level, and k where it is above k
---   cost c                   by levels how many words the checker must look at; by scan q ^ k over q elements
---   seen_words c             the words that it looks at: by levels those of each set in order, level by level; by scan those of
---                            the messages over the echelon rows, level by level, of which there are (q ^ k - 1) / (q - 1)
+--   cost c                   by levels the number of messages of all levels of all sets, though the checker may look at more words
+--                            for a level of k; by scan q ^ k over q elements
+--   seen_words c             the words of the messages: by levels those of each set in order, level by level; by scan those over
+--                            the echelon rows, level by level, of which there are (q ^ k - 1) / (q - 1)
 --   first_lighter c          the first nonzero one of them that is lighter than the distance
 --   span_divisor c           the divisor of the weights of the span of the rows
 --   claimed_sum c claims     the rounded sum, which is the bound that the levels give: the least multiple of the divisor that is at
 --                            least 1 and at least the sum of level + 1 - (k - fresh columns)
---   first_dependent c claims number    the number, from 1, of the first basis that is no information set
+--   first_dependent c number claims    the number, counted from `number`, of the first basis that is no information set
 --   least_overlap c claims   the least coordinate that is fresh in two sets
 --   verdict c                accepted, or the first reason in the checker's order
 --   IsValid c                the certificate proves its distance: what accepted says, each fact by itself

@@ -5,7 +5,6 @@ pub mod Checkpoint
 pub mod Claim
 pub mod ClaimMeaning
 pub mod Document
-pub mod Entries
 pub mod Json
 pub mod Proven
 pub mod Shape

@@ -1,5 +1,5 @@
 //! Reads the parts of a JSON value.
-ghost use Rattle.std.specs.Prelude.{◌≡◌, ◌==◌, map, Option, option_map, option_and_then, IfOk};
+ghost use Rattle.std.specs.Prelude.{◌≡◌, ◌==◌, map, Option, None, option_map, option_and_then, IfOk, IsOk};
 ghost use Rattle.serde_json.specs.Find.{get_member, as_str, as_array};
 ghost use Rattle.serde_json.specs.View.{view};
 ghost use Rattle.lc_formats.specs.Text.{same_bytes};
@@ -65,6 +65,8 @@ pub fn array_at<'v>(object: &'v Value, key: &str) -> Option<&'v Vec<Value>>
 #[tactic(auto, using(crate::proofs::InsideLaws::numbers_of_laws))]
 pub fn numbers_of(alloc: Global, value: &Value) -> Result<Option<Vec<u64>>, NoMemory>
     ensures is { IfOk result (λ o. option_map (λ v. v.items) o ≡ numbers_of (view value.now)) }
+    // What is no array takes no memory.
+    ensures none { as_array (view value.now) ≡ None → IsOk result }
 {
     let Some(items) = value.as_array() else {
         return Ok(None);
@@ -83,6 +85,8 @@ pub fn numbers_of(alloc: Global, value: &Value) -> Result<Option<Vec<u64>>, NoMe
 #[tactic(auto, using(crate::proofs::InsideLaws::list_at_laws))]
 pub fn list_at(alloc: Global, object: &Value, key: &str) -> Result<Option<Vec<u64>>, NoMemory>
     ensures is { IfOk result (λ o. option_map (λ v. v.items) o ≡ list_at key.now (members_in (view object.now))) }
+    // Where no array is, it takes no memory.
+    ensures none { option_and_then as_array (get_member key.now (members_in (view object.now))) ≡ None → IsOk result }
 {
     match object.get(key) {
         Some(value) => numbers_of(alloc, value),

@@ -1,5 +1,5 @@
 //! The check of a certificate by construction.
-ghost use Rattle.std.specs.Prelude.{◌≡◌, ◌↔◌, Err, IfOk};
+ghost use Rattle.std.specs.Prelude.{◌≡◌, ◌↔◌, length, Err, IfOk, IfErr};
 ghost use Rattle.lc_algebra.specs.Word.{Fits};
 ghost use Rattle.lc_formats.specs.Certificate.{accepted};
 ghost use Rattle.lc_formats.specs.Claim.{Built as FormatsBuilt};
@@ -52,6 +52,7 @@ pub fn check_built(alloc: Global, built: &Built) -> Result<Verdict, NoMemory>
 fn stopped(stop: &Stop) -> Result<Verdict, NoMemory>
     ensures is { IfOk result (λ v. (b : FormatsBuilt) → IsOutcomeOf (Err stop.now) (HasOutcome b.field 0 b.claim) →
         IsTreeVerdict b (verdict_of v)) }
+    ensures told { IfErr result (λ _. stop.now ≡ Stop.NoMemory) }
 {
     match stop {
         Stop::Refused(number, refusal) => {
@@ -86,6 +87,7 @@ fn verdict_on(alloc: Global, built: &Built, top: &Made) -> Result<Verdict, NoMem
 fn is_inside(alloc: Global, code: &Code, word: &[u8]) -> Result<bool, NoMemory>
     requires word { Fits code.now.field word.now }
     ensures is { IfOk result (λ b. b ≡ in_code code.now word.now) }
+    ensures needed { IfErr result (λ _. length word.now ≡ code.now.columns) }
 {
     let _matrix = code.matrix();
     if word.len() != code.length() {

@@ -1,5 +1,5 @@
 //! The codes that claims make of the codes of their parts, with their bounds.
-ghost use Rattle.std.specs.Prelude.{◌≡◌, ◌≤◌, ◌==◌, if◌then◌else◌, length, All, IfOk};
+ghost use Rattle.std.specs.Prelude.{◌≡◌, ◌≤◌, ◌==◌, if◌then◌else◌, length, All, IsTrue, IsErrOf, IfOk};
 ghost use Rattle.std.specs.List.{list_all};
 ghost use Rattle.lc_algebra.specs.Word.{IsWord, Fits};
 ghost use Rattle.lc_algebra.specs.Divisor.{rounded};
@@ -59,6 +59,8 @@ pub(crate) fn nested(alloc: Global, number: u64, outer: &Made, inner: &Made) -> 
 pub(crate) fn spanned(alloc: Global, number: u64, rows: &[Word], of: &Made) -> Result<Made, Stop>
     requires rows { All (λ row. Fits of.now.code.field row) rows.now }
     ensures is { IsOutcomeOf result (SpanOutcome number rows.now of.now.code of.now.bound) }
+    ensures needed { IsErrOf result Stop.NoMemory →
+        IsTrue (list_all (λ row. length row == of.now.code.columns) rows.now) }
 {
     if !have_length(rows, of.code.length()) {
         return Err(Stop::Refused(number, 12));

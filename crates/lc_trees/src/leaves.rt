@@ -1,6 +1,7 @@
 //! The codes that claims without parts define, with their bounds.
-ghost use Rattle.std.specs.Prelude.{◌≡◌, IsTrue};
-ghost use Rattle.lc_algebra.specs.Field.{is_symbol};
+ghost use Rattle.std.specs.Prelude.{◌≡◌, ◌≢◌, Err, IsTrue};
+ghost use Rattle.lc_algebra.specs.declared.FieldName.{FieldName};
+ghost use Rattle.lc_algebra.specs.Field.{size, is_symbol};
 ghost use Rattle.lc_formats.specs.Claim.{search, alternant};
 ghost use Rattle.lc_formats.specs.ClaimMeaning.{HasOutcome};
 ghost use Rattle.lc_formats.specs.Document.{IsShapedClaim};
@@ -53,6 +54,7 @@ pub(crate) fn formed(
 ) -> Result<Made, Stop>
     ensures is { IsOutcomeOf result (HasOutcome field.now number
         (alternant form.now.locator form.now.points.now form.now.multipliers.now form.now.r)) }
+    ensures told { ((f : FieldName) → size f ≢ form.now.locator) → result ≢ Err Stop.NoMemory }
 {
     let StatedForm {
         locator,

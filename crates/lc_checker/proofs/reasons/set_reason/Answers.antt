@@ -21,15 +21,17 @@ levels_reason-requires-clause-shaped c =
     let t = levels_shaped (certificate_of c.args.cert.now) (map claim_of c.in-Levels.claims.items) c.requires.shaped (ap proof_of c.in-Levels.is) in
     rw (c.deref.ensures.value, c.requires.code.columns) t.each
 
-pub returns-in-Scan : goal.returns-in-Scan
+pub returns-in-Scan-clause-is : goal.returns-in-Scan-clause-is
 unfolding certificate_of proof_of reasons_of
-returns-in-Scan c = record { is = scan_reasons (certificate_of c.args.cert.now) (ap proof_of c.in-Scan.is) }
+returns-in-Scan-clause-is c = scan_reasons (certificate_of c.args.cert.now) (ap proof_of c.in-Scan.is)
 
-pub returns-in_ok-reason-in-Levels : goal.returns-in_ok-reason-in-Levels
+pub returns-in_err-reason-in-Levels-clause-scan : goal.returns-in_err-reason-in-Levels-clause-scan
 unfolding certificate_of proof_of
-returns-in_ok-reason-in-Levels c =
+returns-in_err-reason-in-Levels-clause-scan c = λ is_scan. let is_levels = ap proof_of c.in-Levels.is in absurd (cc)
+
+pub returns-in_ok-reason-in-Levels-clause-is : goal.returns-in_ok-reason-in-Levels-clause-is
+unfolding certificate_of proof_of
+returns-in_ok-reason-in-Levels-clause-is c =
     let cert = certificate_of c.args.cert.now in
-    record {
-      is = levels_reasons cert (map claim_of c.in-Levels.claims.items) (reasons_of c.in_ok-reason-in-Levels.reason) (ap proof_of c.in-Levels.is) (λ later.
-          ap (λ xs. set_reasons cert (levels (map claim_of xs)) later) (sym c.deref.ensures.value) ∙ c.in_ok-reason-in-Levels.ensures.is cert c.requires.rows c.requires.code refl later);
-    }
+    levels_reasons cert (map claim_of c.in-Levels.claims.items) (reasons_of c.in_ok-reason-in-Levels.reason) (ap proof_of c.in-Levels.is) (λ later.
+    ap (λ xs. set_reasons cert (levels (map claim_of xs)) later) (sym c.deref.ensures.value) ∙ c.in_ok-reason-in-Levels.ensures.is cert c.requires.rows c.requires.code refl later)
