@@ -22,7 +22,7 @@ pub(crate) enum CommandLine {
     NoMemory,
 }
 
-// All words but the first, which is the program's name. If there are none, no memory is taken.
+// All words but the first, which is the program's name. Never refused if there are none.
 fn after_name(alloc: Global, mut all: Args) -> Result<Vec<String>, NoMemory>
     ensures is { IfOk result (λ words. words.items ≡ drop 1 (into_iter_items all)) }
     ensures nothing { drop 1 (into_iter_items all) ≡ [] → IsOk result }
@@ -35,7 +35,7 @@ fn after_name(alloc: Global, mut all: Args) -> Result<Vec<String>, NoMemory>
     Ok(words)
 }
 
-/// The command line of the words that the library gives, the program's name first. No memory is taken for a program's name alone.
+/// The command line of the words that the library gives, the program's name first. A program's name alone never gives `NoMemory`.
 pub(crate) fn read_line(alloc: Global, read: io::Result<Args>) -> CommandLine
     ensures words { IfOk read (λ all. IsLineOf (words_of (drop 1 (into_iter_items all))) result) }
     ensures nothing { IfOk read (λ all. drop 1 (into_iter_items all) ≡ [] → result ≢ CommandLine.NoMemory) }

@@ -36,11 +36,12 @@ impl NewFile for MemoryFile {
 
     ghost written = { λ f. Some f };
 
-    /// Fails only if memory runs out. Then nothing is written.
+    /// Fails only if memory runs out, and never for no bytes. Then nothing is written.
     fn put(&mut self, bytes: &[u8]) -> Result<(), Failed>
         ensures put { OnOk result (WhereTold (Some self.old) (Some self.new) (IsWrittenOn bytes.now)) }
         ensures torn { OnErr result (WhereTold (Some self.old) (Some self.new) KeepsName) }
         ensures same { OnErr result (self.new ≡ self.old) }
+        ensures nothing { bytes.now ≡ [] → IsOk result }
     {
         match self.bytes.extend_from_slice(bytes) {
             Ok(()) => Ok(()),

@@ -23,7 +23,7 @@ fn newline_in(bytes: &[u8]) -> Option<usize>
     bytes.iter().position(|b| *b == b'\n')
 }
 
-// The line of this number, if it is that of a part. Bytes that don't begin with their seal take no memory.
+// The line of this number, if it is that of a part. Never refused for bytes that don't begin with their seal.
 fn numbered_line(alloc: Global, number: u64, bytes: &[u8]) -> Result<Option<Numbered>, NoMemory>
     ensures is { IfOk result (λ o. option_map numbered_of o ≡ numbered number (part_in bytes.now)) }
     ensures damaged { is_headed bytes.now ≡ false → IsOk result }
@@ -34,7 +34,7 @@ fn numbered_line(alloc: Global, number: u64, bytes: &[u8]) -> Result<Option<Numb
     }
 }
 
-// Keeps the line of this number if it is that of a part. Bytes that don't begin with their seal take no memory.
+// Keeps the line of this number if it is that of a part. Never refused for bytes that don't begin with their seal.
 #[tactic(auto, using(crate::proofs::LineLaws::only_headed))]
 fn keep(alloc: Global, lines: &mut Vec<Numbered>, number: u64, bytes: &[u8]) -> Result<(), NoMemory>
     ensures kept { OnOk result (map numbered_of lines.new.items
