@@ -1,5 +1,6 @@
 //! The values of a script.
-ghost use Rattle.std.specs.Prelude.{◌≡◌, map, option_map, IfOk};
+ghost use Rattle.std.specs.Prelude.{◌≡◌, ℕ, Bool, map, option_map, IfOk, IsOk};
+ghost use Rattle.lc_language.specs.Value as language;
 ghost use Rattle.lc_language.specs.Value.{number_in, field_in, numbers_in, lists_in, code_in};
 ghost use Rattle.lc_calls.specs.Value.{value_of};
 
@@ -93,7 +94,10 @@ impl Value {
 
     /// The same value, which shares what is large.
     pub fn share(&self) -> Result<Value, NoMemory>
-        ensures { IfOk result (λ v. value_of v ≡ value_of self.now) }
+        ensures is { IfOk result (λ v. value_of v ≡ value_of self.now) }
+        // A number and a truth value take no memory.
+        ensures number { (n : ℕ) → value_of self.now ≡ language.number n → IsOk result }
+        ensures truth { (b : Bool) → value_of self.now ≡ language.truth b → IsOk result }
     {
         match self {
             Value::Number(n) => Ok(Value::Number(*n)),

@@ -3,8 +3,8 @@
 --   value_none, value_more, value_all, value_grows      the loop over digits
 --   step_blank .. step_end    what `scan_within` does with what is at an offset
 --   Scans bytes ts at     the tokens before the offset are ts
---   Scans-none, -skip, -token, -end      the loop over the bytes
-use Rattle.std.proofs.Common.{◌≡◌, ℕ, zero, suc, ◌+◌, ◌-◌, ◌*◌, ◌^◌, ◌<◌, ◌≤◌, Bool, true, false, cond, ◌⊎◌, inl, inr, ◌==◌, ◌&&◌, not, nat_lt, List, [], ◌∷◌, ◌++◌, length, get_or, drop, Some, None, refl, sym, ap, ◌∙◌, append_assoc, length-drop, arith}
+--   Scans-none, -skip, -token, -some, -end      the loop over the bytes
+use Rattle.std.proofs.Common.{◌≡◌, ◌≢◌, ℕ, zero, suc, ◌+◌, ◌-◌, ◌*◌, ◌^◌, ◌<◌, ◌≤◌, Bool, true, false, cond, ◌⊎◌, inl, inr, ◌==◌, ◌&&◌, not, nat_lt, List, [], ◌∷◌, ◌++◌, length, get_or, drop, Some, None, refl, sym, ap, ◌∙◌, append_assoc, length-append, length-drop, arith}
 use Rattle.std.proofs.lemmas.List.{at_drop_more, at_drop_all, drop-drop, append-nil}
 use Rattle.std.proofs.lemmas.Bool.Decides.{nat_tests}
 use Rattle.std.proofs.Math.Numerals.{one-add}
@@ -280,6 +280,13 @@ Scans-token bytes ts at t l s h = go s.most s.enough s.all
       enough = omega (arith, h.0, h.1);
       all = a ∙ ap (with_front ts) (h.2 most) ∙ ap (λ l. record { tokens = l; ending = (scan_within most t.end (drop t.end bytes)).ending }) (sym (append_assoc ts (t ∷ []) (scan_within most t.end (drop t.end bytes)).tokens));
     }
+
+-- a token that is found is one of the script's
+pub Scans-some : (bytes : List ℕ) (ts : List Token) (at : ℕ) (t : Token) → at ≤ length bytes → Scans bytes ts at → IsStep bytes at (step.Token t) → (scan bytes).tokens ≢ []
+Scans-some bytes ts at t l s h none =
+    let more = Scans-token bytes ts at t l s h in
+    let e = ap length (sym none ∙ ap (λ (x : Scanned). x.tokens) more.all) in
+    absurd (omega (arith, simp length-append at e))
 
 pub Scans-end : (bytes : List ℕ) (ts : List Token) (at : ℕ) (ending : Ending) → Scans bytes ts at → IsStep bytes at (step.End ending) → scan bytes ≡ record { tokens = ts; ending = ending_of ending }
 unfolding ended

@@ -1,4 +1,4 @@
-ghost use Rattle.std.specs.Prelude.{◌≡◌, map, ◌+◌, ◌<◌, ◌≤◌, ◌++◌, ◌∷◌, ◌&&◌, [], List, None, nat_le, length, option_map, string_bytes, ℕ, IfOk, IfErr, IsOk, MatchOption};
+ghost use Rattle.std.specs.Prelude.{◌≡◌, ◌≢◌, map, ◌+◌, ◌<◌, ◌≤◌, ◌++◌, ◌∷◌, ◌&&◌, [], Err, List, None, nat_le, length, option_map, string_bytes, ℕ, IfOk, IfErr, IsOk, MatchOption};
 ghost use Rattle.lc_grammar.specs.declared.TokenKind.TheVariants.{Name, Number, Open};
 ghost use Rattle.lc_grammar.specs.Token.{text_of, number_of, scan, script_end};
 ghost use Rattle.lc_grammar.specs.Tree as trees;
@@ -55,8 +55,9 @@ fn refused_number(kind: TokenKind, depth: usize) -> u8
 
 // The refusal if the grammar doesn't allow the first token, or the end of the script.
 fn refusal(source: &Source<'_>, tokens: &[Token], depth: usize) -> ParseRefusal
-    ensures { (s : State) → level_of s ≡ depth → IsStuck source.now.bytes.now s tokens.now
+    ensures is { (s : State) → level_of s ≡ depth → IsStuck source.now.bytes.now s tokens.now
         → Refuses source.now.bytes.now source.now.ending s tokens.now result }
+    ensures told { result ≢ ParseRefusal.NoMemory }
 {
     match tokens.split_first() {
         None => end_refusal(source.ending),
@@ -72,7 +73,8 @@ fn refusal(source: &Source<'_>, tokens: &[Token], depth: usize) -> ParseRefusal
 
 // The refusal at the end of the tokens, if the script can't end.
 fn end_refusal(ending: Ending) -> ParseRefusal
-    ensures { (s : State) → IsNotStart s → IsOutcome result (ended_at s (ending_of ending)) }
+    ensures is { (s : State) → IsNotStart s → IsOutcome result (ended_at s (ending_of ending)) }
+    ensures told { result ≢ ParseRefusal.NoMemory }
 {
     match ending {
         Ending::ScriptEnd(offset) => ParseRefusal::Fault { number: 41, offset },
@@ -324,6 +326,7 @@ fn statements(source: &Source<'_>, tokens: &[Token]) -> Result<Vec<Statement>, P
         ≡ read (map statement_of v.items)) }
     ensures refused { IfErr result (λ e. Refuses source.now.bytes.now source.now.ending (start []) tokens.now e) }
     ensures nothing { (offset : ℕ) → ending_of source.now.ending ≡ script_end offset → tokens.now ≡ [] → IsOk result }
+    ensures blank { tokens.now ≡ [] → result ≢ Err ParseRefusal.NoMemory }
 {
     let mut found = Vec::new(source.alloc);
     let mut left = tokens;
@@ -341,8 +344,8 @@ fn statements(source: &Source<'_>, tokens: &[Token]) -> Result<Vec<Statement>, P
 /// The tokens of a script, in order: the kind of each, the offset of its first byte and the offset after its
 /// last one, so that its text is `bytes[start..end]`. Spaces, tabs, carriage returns, newlines and comments
 /// from `#` to before the next newline separate tokens. Refuses with the number 40 a byte that begins
-/// no token, with 43 a number above 2^64 - 1, whichever comes first, and if memory runs out, which no bytes
-/// never do.
+/// no token, with 43 a number above 2^64 - 1, whichever comes first, and if memory runs out, which bytes
+/// that hold no token never do.
 pub fn tokens(alloc: Global, bytes: &[u8]) -> Result<Vec<Token>, ParseRefusal>
     // What it returns are the script's tokens, up to its end.
     ensures read { IfOk result
@@ -355,6 +358,8 @@ pub fn tokens(alloc: Global, bytes: &[u8]) -> Result<Vec<Token>, ParseRefusal>
     ensures faulty { (f : Fault) → TokenFault (scan bytes.now).ending f → IsFaultAs result f }
     // No bytes have no tokens, for which no memory is asked.
     ensures nothing { bytes.now ≡ [] → IsOk result }
+    // Nor is it for others that hold no token.
+    ensures blank { (scan bytes.now).tokens ≡ [] → result ≢ Err ParseRefusal.NoMemory }
 {
     let (tokens, ending) = scan(alloc, bytes)?;
     match token_refusal(ending) {
@@ -367,7 +372,8 @@ pub fn tokens(alloc: Global, bytes: &[u8]) -> Result<Vec<Token>, ParseRefusal>
 /// may be any. If they are no script it refuses with the number of the fault and the first offset at which
 /// they can't go on: 40 at a byte that begins no token, 43 at a number above 2^64 - 1, 42 at the parenthesis or
 /// bracket that would be the 33rd open one, 41 at a token that the grammar doesn't allow there, or at the
-/// script's length if its end isn't allowed. It refuses if memory runs out, which no bytes never do.
+/// script's length if its end isn't allowed. It refuses if memory runs out, which bytes that hold no token
+/// never do.
 pub fn parse(alloc: Global, bytes: &[u8]) -> Result<Script, ParseRefusal>
     // What it returns is a script that the bytes are.
     ensures read { IfOk result (λ s. Reads bytes.now (script_of s)) }
@@ -380,6 +386,8 @@ pub fn parse(alloc: Global, bytes: &[u8]) -> Result<Script, ParseRefusal>
     ensures faulty { (f : Fault) → IsFault bytes.now f → IsFaultAs result f }
     // No bytes are the script of no statements, for which no memory is asked.
     ensures nothing { bytes.now ≡ [] → IsOk result }
+    // Nor is it for others that hold no token.
+    ensures blank { (scan bytes.now).tokens ≡ [] → result ≢ Err ParseRefusal.NoMemory }
 {
     let (tokens, ending) = scan(alloc, bytes)?;
     let source = Source {

@@ -210,6 +210,7 @@ pub(crate) fn scan(alloc: Global, bytes: &[u8]) -> Result<(Vec<Token>, Ending), 
     ensures tokens { IfOk result (λ r. r.0.items ≡ (scan bytes.now).tokens) }
     ensures ending { IfOk result (λ r. ending_of r.1 ≡ (scan bytes.now).ending) }
     ensures nothing { bytes.now ≡ [] → IsOk result }
+    ensures blank { (scan bytes.now).tokens ≡ [] → IsOk result }
 {
     let mut tokens = Vec::new(alloc);
     let mut at = 0;

@@ -1,5 +1,5 @@
 use Rattle.std.proofs.Common.{sym, ap, arith}
-use Rattle.lc_parse.proofs.Scanning.{Scans-none, Scans-skip, Scans-token, Scans-end}
+use Rattle.lc_parse.proofs.Scanning.{Scans-none, Scans-skip, Scans-token, Scans-some, Scans-end}
 use Rattle.lc_grammar.specs.Token.{Scanned}
 use Rattle.lc_parse.proofs.scan.scan.Goals as goal
 
@@ -18,6 +18,11 @@ loop-n-preserved c =
       within = c.in-Token.ensures.1;
       so_far = rw c.in_ok-push-in-Token.ensures.items (Scans-token c.args.bytes.now l.tokens.items l.at c.in-Token.token l.invariant.within l.invariant.so_far c.in-Token.ensures);
     }
+
+pub returns-in_err-push-in-Token-clause-blank : goal.returns-in_err-push-in-Token-clause-blank
+returns-in_err-push-in-Token-clause-blank c =
+    let l = c.loop-n in
+    λ none. absurd (Scans-some c.args.bytes.now l.tokens.items l.at c.in-Token.token l.invariant.within l.invariant.so_far c.in-Token.ensures none)
 
 pub returns-in-End-clause-tokens : goal.returns-in-End-clause-tokens
 returns-in-End-clause-tokens c =
