@@ -70,15 +70,15 @@ kept_told : (f : FieldName) (x : List ℕ) → IsTrue (is_symbol f) → are_elem
 unfolding are_elements
 kept_told f x s h = row_kept (size f) x (small_size f s) h
 
-pub list_long : (offset : ℕ) (C : Matrix) (x : List ℕ) (s : Stop) → length x ≢ C.columns → IsMade (Err LengthsDiffer) offset (Err s) → IsChecked C x offset (Err s)
-list_long offset C x (stop.Refused r) h m = (refusal_from LengthsDiffer, uneven C x h, m.1)
-list_long offset C x stop.NoMemory h m = tt
+pub list_long : (offset : ℕ) (C : Matrix) (x : List ℕ) (s : Stop) → length x ≢ C.columns → s ≢ stop.NoMemory → IsMade (Err LengthsDiffer) offset (Err s) → IsChecked C x offset (Err s)
+list_long offset C x (stop.Refused r) h n m = (refusal_from LengthsDiffer, uneven C x h, m.1)
+list_long offset C x stop.NoMemory h n m = absurd (n refl)
 
 pub list_high : (offset : ℕ) (C : Matrix) (f : FieldName) (x w : List ℕ) (b : Bool) (s : Stop) → length x ≡ C.columns → IsTrue (is_symbol C.field) → f ≡ C.field → w ≡ clamped x → IsTrue b ↔ Fits f w → b ≡ false → IsMade (Err (BadArgument 2)) offset (Err s) → IsChecked C x offset (Err s)
 list_high offset C f x w b (stop.Refused r) l y o c h k m =
     let above : are_elements C.field x ≡ false = entries_told C.field x w b y c (subst (λ g. IsTrue b ↔ Fits g w) o h) ∙ k in
     (refusal_from (BadArgument 2), high C x l above, m.1)
-list_high offset C f x w b stop.NoMemory l y o c h k m = tt
+list_high offset C f x w b stop.NoMemory l y o c h k m = l
 
 pub list_right : (C : Matrix) (f : FieldName) (x w : List ℕ) (b : Bool) → length x ≡ C.columns → IsTrue (is_symbol C.field) → f ≡ C.field → w ≡ clamped x → IsTrue b ↔ Fits f w → b ≡ true → IsRight C x w
 list_right C f x w b l y o c h k =

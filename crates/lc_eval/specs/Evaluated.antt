@@ -1,12 +1,13 @@
 -- What the evaluation of expressions and statements answers; the clauses of private functions alone speak of these.
 --   AnswersAll r P               r is the values of several expressions or the first fault, of which P holds, unless memory ran out
+--   takes_none b                 whether a bound call takes no memory: its value is read from what is there
 --   kind_of k                    what a query of the kind k asks
 --   need_of q                    what a statement does that asks the query q
 --   Affects e P                  e is what a statement does, of which P holds
 --   AffectsOrFails r P           r is what a statement does, or its fault, of which P holds, unless memory ran out
 --   IsQueryAt e row c es         the expression is the query c of these arguments, and the row is that of c
 --   IsQueryOf e o                o is what the expression asks, with its row and its arguments, if it is a query of the table
-use Rattle.std.specs.Prelude.{◌≡◌, ℕ, List, Option, Some, None, Result, Ok, Err}
+use Rattle.std.specs.Prelude.{◌≡◌, ℕ, Bool, true, false, List, Option, Some, None, Result, Ok, Err}
 use Rattle.std.specs.Global.{Vec}
 use Rattle.lc_grammar.specs.Tree as tree
 use Rattle.lc_parse.specs.declared.tree.Expr.{Expr}
@@ -14,6 +15,7 @@ use Rattle.lc_parse.specs.Views.{tree_of, trees_of}
 use Rattle.lc_language.specs.Print.{fault_line}
 use Rattle.lc_language.specs.Query as language
 use Rattle.lc_language.specs.Query.{distance, by_levels, by_scan}
+use Rattle.lc_language.specs.Calls.{BoundCall, dimension, word_length, weight_of, is_self_orthogonal_code}
 use Rattle.lc_language.specs.Evaluation as evaluation
 use Rattle.lc_language.specs.Evaluation.{Outcomes, all_give, one_refused, Step, prints, binds, asks, counts, nears, fails, query_of}
 use Rattle.lc_calls.specs.Built.{built_calls, query_call_of, IsAsked}
@@ -34,6 +36,13 @@ abbrev pub AnswersAll : Result (Vec Value) Stop → (Outcomes → Type 0) → Ty
 AnswersAll (Ok vs) P = P (all_give (values_of vs.items))
 AnswersAll (Err (stop.Refused r)) P = P (one_refused (refused_of r))
 AnswersAll (Err stop.NoMemory) P = Unit {0}
+
+unfoldable pub takes_none : BoundCall → Bool
+takes_none (dimension C) = true
+takes_none (word_length C) = true
+takes_none (weight_of x) = true
+takes_none (is_self_orthogonal_code C) = true
+takes_none _ = false
 
 abbrev pub kind_of : QueryKind → language.QueryKind
 kind_of Distance = distance

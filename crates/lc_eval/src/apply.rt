@@ -1,6 +1,8 @@
 //! What a call gives of its arguments.
+ghost use Rattle.std.specs.Prelude.{IsTrue, IsOk};
 ghost use Rattle.lc_language.specs.Evaluation.{AppliesTo};
 ghost use Rattle.lc_calls.specs.Applied.{Answers};
+ghost use Rattle.lc_eval.specs.Evaluated.{takes_none};
 
 use crate::construction::{circulant_code, construction_x_code, quasi_cyclic_code, residue_code};
 use crate::cyclic::{
@@ -19,13 +21,15 @@ use lc_calls::{BoundCall, Means, Stop, Value};
 use std::alloc::Global;
 
 /// What a call gives of its arguments, or its refusal, at this offset.
+#[tactic(auto, unfolding(crate::specs::Evaluated::takes_none))]
 pub(crate) fn apply(
     alloc: Global,
     stock: &mut Stock,
     offset: usize,
     call: BoundCall<'_>,
 ) -> Result<Value, Stop>
-    ensures { Answers result (AppliesTo offset (⟦<BoundCall<'static> as Means>⟧.meaning call.entry)) }
+    ensures is { Answers result (AppliesTo offset (⟦<BoundCall<'static> as Means>⟧.meaning call.entry)) }
+    ensures none { IsTrue (takes_none (⟦<BoundCall<'static> as Means>⟧.meaning call.entry)) → IsOk result }
 {
     match call {
         BoundCall::Gf(q) => gf(alloc, stock, offset, q),

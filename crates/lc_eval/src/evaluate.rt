@@ -1,6 +1,7 @@
 //! The values of expressions.
-ghost use Rattle.std.specs.Prelude.{◌≡◌, length, IfOk};
+ghost use Rattle.std.specs.Prelude.{◌≡◌, ◌≢◌, ℕ, length, None, Err, IfOk, IsOk};
 ghost use Rattle.lc_grammar.specs.Tree as tree;
+ghost use Rattle.lc_language.specs.Value.{value_named};
 ghost use Rattle.lc_language.specs.Evaluation.{Evaluates, EvaluatesAll, EvaluatesList, nothing_yet};
 ghost use Rattle.lc_parse.specs.Views.{tree_of, trees_of};
 ghost use Rattle.lc_calls.specs.Built.{built_calls};
@@ -18,7 +19,8 @@ use std::alloc::Global;
 
 // The value of a name that stands alone.
 fn named(alloc: Global, names: &Names, offset: usize, name: &str) -> Result<Value, Stop>
-    ensures { Answers result (Evaluates built_calls names.now (tree.name offset name.now)) }
+    ensures is { Answers result (Evaluates built_calls names.now (tree.name offset name.now)) }
+    ensures told { value_named name.now names.now ≡ None → result ≢ Err Stop.NoMemory }
 {
     match names.value_of(name) {
         Some(value) => Ok(value.share()?),
@@ -34,7 +36,8 @@ pub(crate) fn evaluate(
     stock: &mut Stock,
     expr: &Expr,
 ) -> Result<Value, Stop>
-    ensures { Answers result (Evaluates built_calls names.now (tree_of expr.now)) }
+    ensures is { Answers result (Evaluates built_calls names.now (tree_of expr.now)) }
+    ensures number { (offset n : ℕ) → tree_of expr.now ≡ tree.number offset n → IsOk result }
 {
     match &expr.node {
         Node::Number(n) => Ok(Value::Number(*n)),

@@ -1,4 +1,6 @@
 //! What calls on words, on a code and a word, and on two codes give.
+ghost use Rattle.std.specs.Prelude.{◌≡◌, ◌≢◌, [], Err, IfOk, IfErr, IsOk};
+ghost use Rattle.lc_constructions.specs.Refusal.{refusal_values};
 ghost use Rattle.lc_language.specs.Calls as bound;
 ghost use Rattle.lc_language.specs.Value as language;
 ghost use Rattle.lc_language.specs.Evaluation.{AppliesTo};
@@ -18,6 +20,8 @@ use std::alloc::Global;
 // A truth value, or the refusal of its arguments at this offset.
 fn truth(alloc: Global, offset: usize, answer: Result<bool, CodeRefusal>) -> Result<Value, Stop>
     ensures is { IsMadeAs language.truth answer offset result }
+    ensures told { IfErr answer (λ e. e ≢ CodeRefusal.NoMemory → refusal_values e ≡ [] → result ≢ Err Stop.NoMemory) }
+    ensures given { IfOk answer (λ _. IsOk result) }
 {
     match answer {
         Ok(holds) => Ok(Value::Truth(holds)),
@@ -28,6 +32,8 @@ fn truth(alloc: Global, offset: usize, answer: Result<bool, CodeRefusal>) -> Res
 // A number, or the refusal of its arguments at this offset.
 fn number(alloc: Global, offset: usize, answer: Result<usize, CodeRefusal>) -> Result<Value, Stop>
     ensures is { IsMadeAs language.number answer offset result }
+    ensures told { IfErr answer (λ e. e ≢ CodeRefusal.NoMemory → refusal_values e ≡ [] → result ≢ Err Stop.NoMemory) }
+    ensures given { IfOk answer (λ _. IsOk result) }
 {
     match answer {
         Ok(number) => Ok(Value::Number(number as u64)),

@@ -1,11 +1,14 @@
-use Rattle.std.proofs.Common.{◌≡◌, ◌≢◌, ◌∙◌, length}
+use Rattle.std.proofs.Common.{◌≡◌, ◌≢◌, ◌∙◌, length, refl}
+use Rattle.lc_constructions.specs.Refusal.{refusal_values}
 use Rattle.lc_eval.proofs.DecodeLaws.{list_long, list_high, list_right}
 use Rattle.lc_eval.proofs.decoding.checked.Goals as goal
 
 pub returns-then-list-length : goal.returns-then-list-length
+unfolding refusal_values
 returns-then-list-length c =
+    let told = c.refused_as.ensures.told (λ e. absurd (cc)) refl in
     let long : length c.args.list.now ≢ c.args.code.now.columns = λ e. c.if-list-length.true (cc) in
-    list_long c.args.offset c.args.code.now c.args.list.now c.refused_as.result long c.refused_as.ensures.is
+    list_long c.args.offset c.args.code.now c.args.list.now c.refused_as.result long told c.refused_as.ensures.is
 
 pub returns-then-not-fits : goal.returns-then-not-fits
 returns-then-not-fits c =
