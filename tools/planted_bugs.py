@@ -144,7 +144,10 @@ def judged(bug, said):
     verdicts = dict(VERDICT.findall(said))
     errors = [(path.replace("/", "::"), text) for path, text in OWN_ERROR.findall(said)]
     module = bug.file[len("src/") : -len(".rt")].replace("/", "::")
+    owner, _, own_name = bug.function.rpartition("::")
     names = [name for name in verdicts if name.endswith(f"::{bug.function}")]
+    # (a method of a trait has the names of its type and of the trait, in one word, before its own)
+    names = names or [name for name in verdicts if re.search(rf"::{owner.rpartition('::')[2]}\w*::{own_name}$", name)]
     names = [name for name in names if f"::{module}::" in name] or names
     if not names:
         return "left out"
