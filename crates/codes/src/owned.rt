@@ -9,23 +9,22 @@ use lc_io::{Folder, FolderVault, NoMemory};
 use std::alloc::Global;
 use std::io::Write;
 
-/// What the sessions of the program have around them: the slots in two files of a folder, a watcher that writes the lines of
-/// records, and one that looks for the file that stops a session.
+/// What the sessions of the program have around them: the slots in two files of a folder, and the watchers of their records.
 #[derive(Drop)]
-pub(crate) struct OwnedSurroundings<V, F, W> {
+pub(crate) struct OwnedSurroundings<V, W> {
     pub(crate) vault: FolderVault<V>,
-    pub(crate) watchers: Vec<ProgramWatcher<W, F>>,
+    pub(crate) watchers: Vec<W>,
 }
 
-impl<V: Folder + Drop, F: Folder + Drop, W: Write + Drop> OwnedSurroundings<V, F, W> {
-    /// Slots in the first folder, lines of records to `records`, and a look for the file in the second folder. Fails only if
-    /// memory runs out.
+impl<V: Folder + Drop, L: Write + Drop, F: Folder + Drop> OwnedSurroundings<V, ProgramWatcher<L, F>> {
+    /// Slots in the first folder, a watcher that writes the lines of records to `records`, and one that looks in the second folder
+    /// for the file that stops a session. Fails only if memory runs out.
     pub(crate) fn new(
         alloc: Global,
         vault: V,
         stops: F,
-        records: W,
-    ) -> Result<OwnedSurroundings<V, F, W>, NoMemory>
+        records: L,
+    ) -> Result<OwnedSurroundings<V, ProgramWatcher<L, F>>, NoMemory>
         ensures vault { IfOk result
             (λ s. s.vault ≡ record { folder = vault; zero = slot_zero; one = slot_one; faults = 0 }) }
         ensures watchers { IfOk result (λ s. s.watchers.items

@@ -1,16 +1,17 @@
 //! The program over its streams and the slots and watchers that are made for it.
 ghost use Rattle.std.specs.Prelude.{◌≡◌};
 ghost use Rattle.std.specs.Process.{exit_status};
+ghost use Rattle.lc_io.specs.Watchers.{hearing};
 ghost use Rattle.codes.specs.declared.texts.TheConstants.{HELP, VERSION};
 ghost use Rattle.codes.specs.Program.{notes_of};
 ghost use Rattle.codes.specs.Run.{IsRun, ends_of};
 
 use crate::owned::OwnedSurroundings;
 use crate::program::{Host, program};
-use lc_io::{Folder, NoMemory, Sink, Source};
+use lc_io::{Folder, NoMemory, Sink, Source, Watcher};
 use lc_rounds::Surroundings;
 use lc_session::Status;
-use std::io::{Eprint, Write};
+use std::io::Eprint;
 use std::process::{ExitCode, Termination};
 use std::thread::Threads;
 
@@ -36,17 +37,16 @@ pub(crate) fn run<
     S: Source,
     K: Sink,
     V: Folder + Drop,
-    F: Folder + Drop,
-    W: Write + Drop,
+    W: Watcher,
     E: Sink,
 >(
     host: &Host<'_, R>,
     source: &mut S,
     sink: &mut K,
-    own: &mut Result<OwnedSurroundings<V, F, W>, NoMemory>,
+    own: &mut Result<OwnedSurroundings<V, W>, NoMemory>,
     errors: &mut E,
 ) -> Exit
-    ensures is { IsRun V.files HELP.now VERSION.now host.now.line own.old own.new
+    ensures is { IsRun V.files (hearing W.heard W.coming W.pauses) HELP.now VERSION.now host.now.line own.old own.new
         (ends_of (S.rest source.old) (S.faults source.old) (K.written sink.old) (K.faults sink.old))
         (ends_of (S.rest source.new) (S.faults source.new) (K.written sink.new) (K.faults sink.new))
         (notes_of (E.written errors.old) (E.faults errors.old))

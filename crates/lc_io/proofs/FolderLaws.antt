@@ -1,10 +1,12 @@
 -- Lemmas on the files of a folder, of which two are the slots of a vault.
 --   made_file        a file that is removed, made anew, written and kept has the bytes that were written
 --   torn_file        one that isn't kept in the end leaves each other file as it was
+--   unwritten_file   so does one that couldn't be written
 --   left_whole       a file that wasn't made leaves that of the slot as it was
 --   moved_whole      a file that was made leaves it with the new bytes, or as it was
 --   whole_slots      so does a store leave the slots
 --   torn_slots       and no other slot than its own is touched
+--   whole_others, torn_others     and no other file
 use Rattle.std.proofs.Common.{◌≡◌, ◌≢◌, refl, sym, ap, subst, ◌∙◌, ◌+◌, inl, inr, ⊎_elim, arith}
 use Rattle.std.proofs.lemmas.List.{length-append}
 use Rattle.std.specs.Prelude.{ℕ, List, [], length, codes, Option, Some, None}
@@ -12,41 +14,57 @@ use Rattle.lc_io.specs.declared.vault.Slot.{Slot}
 use Rattle.lc_io.specs.declared.vault.Slot.TheVariants.{Zero, One}
 use Rattle.lc_io.specs.Vaults.{Slots, in_slot, put, WhereTold, IsTorn}
 use Rattle.lc_io.proofs.SlotLaws.{WhereTold-map, WhereTold-then}
-use Rattle.lc_io.specs.Folders.{Contents, Written, held, bytes_of, IsNew, IsWrittenOn, IsKept, TouchesOnly, IsMade, IsTouched, IsMovedOrNot, IsReplacedOrNot, IsPutOrNot, AreApart, next_of, name_among, slots_in}
+use Rattle.lc_io.specs.Folders.{Contents, Written, held, bytes_of, IsNew, IsWrittenOn, IsKept, TouchesOnly, IsMade, IsTouched, IsMovedOrNot, LeavesOthers, Replaces, IsReplacedOrNot, IsPutOrNot, AreApart, next_of, name_among, slots_in}
 
 -- the last of the steps, of which the file has what was written
 abbrev Ends : List ℕ → List ℕ → (Option Written → Contents → Contents → Type 0) → Contents → Contents → Type 0
 Ends name bytes Last first new = (made : Contents) × IsTouched name first made × Last (Some (record { name = name; bytes = bytes })) made new
 
-steps : (name bytes : List ℕ) (first cleared made new : Option Contents) (empty full : Option Written) (Last : Option Written → Contents → Contents → Type 0)
-    → WhereTold first cleared (IsTouched name) → WhereTold cleared made (IsTouched name) → IsNew cleared name empty → WhereTold empty full (IsWrittenOn bytes) → WhereTold made new (Last full)
+steps : (name bytes : List ℕ) (first cleared made wrote new : Option Contents) (empty full : Option Written) (Last : Option Written → Contents → Contents → Type 0)
+    → WhereTold first cleared (IsTouched name) → WhereTold cleared made (IsTouched name) → IsNew cleared name empty → WhereTold empty full (IsWrittenOn bytes) → WhereTold made wrote (TouchesOnly empty) → WhereTold wrote new (Last full)
     → WhereTold first new (Ends name bytes Last)
-steps name bytes None cleared made new empty full Last removed created is written last =
+steps name bytes None cleared made wrote new empty full Last removed created is written put last =
     let none = subst (λ (m : Option Contents). WhereTold m made (IsTouched name)) removed created in
-    subst (λ (m : Option Contents). WhereTold m new (Last full)) none last
-steps name bytes (Some files) cleared made new empty full Last (left, removed, untouched) created is written last =
+    let still = subst (λ (m : Option Contents). WhereTold m wrote (TouchesOnly empty)) none put in
+    subst (λ (m : Option Contents). WhereTold m new (Last full)) still last
+steps name bytes (Some files) cleared made wrote new empty full Last (left, removed, untouched) created is written put last =
     let there : WhereTold (Some left) made (IsTouched name) = subst (λ (m : Option Contents). WhereTold m made (IsTouched name)) removed created in
     let begun : empty ≡ Some (record { name = name; bytes = [] }) = subst (λ (m : Option Contents). IsNew m name empty) removed is in
     let ended : WhereTold (Some (record { name = name; bytes = [] })) full (IsWrittenOn bytes) = subst (λ (w : Option Written). WhereTold w full (IsWrittenOn bytes)) begun written in
-    let kept : WhereTold (Some there.0) new (Last full) = subst (λ (m : Option Contents). WhereTold m new (Last full)) there.1 last in
+    let went : WhereTold (Some there.0) wrote (TouchesOnly empty) = subst (λ (m : Option Contents). WhereTold m wrote (TouchesOnly empty)) there.1 put in
+    let only : IsTouched name there.0 went.0 = subst (λ (w : Option Written). TouchesOnly w there.0 went.0) begun went.2 in
+    let kept : WhereTold (Some went.0) new (Last full) = subst (λ (m : Option Contents). WhereTold m new (Last full)) went.1 last in
     let same : full ≡ Some (record { name = name; bytes = bytes }) = ended.1 ∙ ap Some ended.2 in
-    (kept.0, kept.1, (there.0, (λ other not. there.2 other not ∙ untouched other not), subst (λ (w : Option Written). Last w there.0 kept.0) same kept.2))
+    (kept.0, kept.1, (went.0, (λ other not. only other not ∙ there.2 other not ∙ untouched other not), subst (λ (w : Option Written). Last w went.0 kept.0) same kept.2))
 
-pub made_file : (name bytes : List ℕ) (first cleared made new : Option Contents) (empty full : Option Written)
-    → WhereTold first cleared (IsTouched name) → WhereTold cleared made (IsTouched name) → IsNew cleared name empty → WhereTold empty full (IsWrittenOn bytes) → WhereTold made new (IsKept full)
+pub made_file : (name bytes : List ℕ) (first cleared made wrote new : Option Contents) (empty full : Option Written)
+    → WhereTold first cleared (IsTouched name) → WhereTold cleared made (IsTouched name) → IsNew cleared name empty → WhereTold empty full (IsWrittenOn bytes) → WhereTold made wrote (TouchesOnly empty) → WhereTold wrote new (IsKept full)
     → WhereTold first new (IsMade name bytes)
-made_file name bytes first cleared made new empty full removed created is written kept =
+made_file name bytes first cleared made wrote new empty full removed created is written put kept =
     WhereTold-map first new (Ends name bytes IsKept) (IsMade name bytes)
     (λ a b (m, before, is). record { made = is.made; others = λ other not. is.others other not ∙ before other not })
-    (steps name bytes first cleared made new empty full IsKept removed created is written kept)
+    (steps name bytes first cleared made wrote new empty full IsKept removed created is written put kept)
 
-pub torn_file : (name bytes : List ℕ) (first cleared made new : Option Contents) (empty full : Option Written)
-    → WhereTold first cleared (IsTouched name) → WhereTold cleared made (IsTouched name) → IsNew cleared name empty → WhereTold empty full (IsWrittenOn bytes) → WhereTold made new (TouchesOnly full)
+pub torn_file : (name bytes : List ℕ) (first cleared made wrote new : Option Contents) (empty full : Option Written)
+    → WhereTold first cleared (IsTouched name) → WhereTold cleared made (IsTouched name) → IsNew cleared name empty → WhereTold empty full (IsWrittenOn bytes) → WhereTold made wrote (TouchesOnly empty) → WhereTold wrote new (TouchesOnly full)
     → WhereTold first new (IsTouched name)
-torn_file name bytes first cleared made new empty full removed created is written torn =
+torn_file name bytes first cleared made wrote new empty full removed created is written put torn =
     WhereTold-map first new (Ends name bytes TouchesOnly) (IsTouched name)
     (λ a b (m, before, after) other not. after other not ∙ before other not)
-    (steps name bytes first cleared made new empty full TouchesOnly removed created is written torn)
+    (steps name bytes first cleared made wrote new empty full TouchesOnly removed created is written put torn)
+
+pub unwritten_file : (name : List ℕ) (first cleared made wrote : Option Contents) (empty : Option Written)
+    → WhereTold first cleared (IsTouched name) → WhereTold cleared made (IsTouched name) → IsNew cleared name empty → WhereTold made wrote (TouchesOnly empty)
+    → WhereTold first wrote (IsTouched name)
+unwritten_file name None cleared made wrote empty removed created is put =
+    let none = subst (λ (m : Option Contents). WhereTold m made (IsTouched name)) removed created in
+    subst (λ (m : Option Contents). WhereTold m wrote (TouchesOnly empty)) none put
+unwritten_file name (Some files) cleared made wrote empty (left, removed, untouched) created is put =
+    let there : WhereTold (Some left) made (IsTouched name) = subst (λ (m : Option Contents). WhereTold m made (IsTouched name)) removed created in
+    let begun : empty ≡ Some (record { name = name; bytes = [] }) = subst (λ (m : Option Contents). IsNew m name empty) removed is in
+    let went : WhereTold (Some there.0) wrote (TouchesOnly empty) = subst (λ (m : Option Contents). WhereTold m wrote (TouchesOnly empty)) there.1 put in
+    let only : IsTouched name there.0 went.0 = subst (λ (w : Option Written). TouchesOnly w there.0 went.0) begun went.2 in
+    (went.0, went.1, λ other not. only other not ∙ there.2 other not ∙ untouched other not)
 
 next_differs : (name : List ℕ) → name ≢ next_of name
 next_differs name same =
@@ -108,3 +126,11 @@ torn_slots slot zero one bytes old new apart is =
     WhereTold-map (slots_in zero one old) (slots_in zero one new) (IsPutOrNot slot bytes) (IsTorn slot)
     (λ a b h. ⊎_elim (λ put. (bytes, put)) (λ same. (in_slot slot a, same ∙ put_again slot a)) h)
     (whole_slots slot zero one bytes old new apart is)
+
+pub whole_others : (name bytes : List ℕ) (old new : Option Contents) → WhereTold old new (Replaces name bytes) → WhereTold old new (LeavesOthers name)
+whole_others name bytes old new is = WhereTold-map old new (Replaces name bytes) (LeavesOthers name) (λ a b h. h.others) is
+
+pub torn_others : (name bytes : List ℕ) (old new : Option Contents) → WhereTold old new (IsReplacedOrNot name bytes) → WhereTold old new (LeavesOthers name)
+torn_others name bytes old new is = WhereTold-map old new (IsReplacedOrNot name bytes) (LeavesOthers name) (λ a b h. h.others) is
+
+pub ruleset store_laws = (whole_slots, torn_slots, whole_others, torn_others)

@@ -1,6 +1,7 @@
 mod Fronts
 pub mod SlotLaws
 pub mod FolderLaws
+mod FaultLaws
 pub mod SeveralRecords
 pub mod MemoryExamples
 pub mod WatcherExamples

@@ -2,6 +2,10 @@
 --   Contents                       the bytes of the file that has a name, None if no file has it
 --   held files name                the bytes at this name; a name that no file has holds none
 --   Known told P                   P holds of what a folder tells, if it tells it
+--   Has told name, Lacks told name     a file has this name, no file has it, if the folder tells what it holds
+--   FailsOr P old new              a call failed: if the folder counts its faults, it counted one more, or counted none, and P holds
+--   HasFailed old new              if the folder counts its faults, it counted one or more, or can't count higher
+--   NotFewer old new               if it counts them, it counted none or more
 --   FailsBy kind result            a call failed with an error of this kind
 --   FailsOnlyBy kind result        a call gave its answer, or failed with an error of this kind
 --   Opens told name given          a reader that gives these bytes was opened: they are those of the file with this name
@@ -19,19 +23,20 @@
 --                                  is as it was
 --   IsMovedOrNot from to old new   the same, or all is as it was
 --   next_of name                   the name of the file that a store of a slot writes first
---   Replaces name bytes old new    the file with this name has these bytes; what has neither this name nor that of the file that a
---                                  store writes first is as it was
+--   LeavesOthers name old new      what has neither this name nor that of the file that a store writes first is as it was
+--   Replaces name bytes old new    the file with this name has these bytes; the others as before
 --   IsReplacedOrNot name bytes old new     the file with this name has these bytes, or what it had; the others as before
 --   AreApart zero one              the names of two slots: neither is the other, nor what a store of the other writes first
 --   FolderSlots R                  a vault of two files: its folder, the names of its slots, and how often it has failed
 --   name_among slot zero one       the name of the file of a slot, of these two
 --   slots_in zero one told         the slots of a vault of files with these names
 --   IsPutOrNot slot bytes old new  these bytes replaced this slot, or both are as they were
-use Rattle.std.specs.Prelude.{◌≡◌, ◌≢◌, ◌⊎◌, ◌≤◌, ◌++◌, ℕ, List, [], codes, length, take, drop, min, Option, Some, None, option_map, Result, IfErr, IsErrAnd}
+use Rattle.std.specs.Prelude.{◌≡◌, ◌≢◌, ◌⊎◌, ◌<◌, ◌≤◌, ◌-◌, ◌^◌, ◌++◌, ℕ, List, [], codes, length, take, drop, min, Option, Some, None, IsSome, option_map, Result, IfErr, IsErrAnd}
 use Rattle.std_io.specs.IoError.{error_kind}
 use Rattle.std_io.specs.declared.io.error.Error.{Error}
 use Rattle.std_io.specs.declared.io.kind.ErrorKind.{ErrorKind}
-use Rattle.lc_io.specs.Vaults.{Slots, put}
+use Rattle.lc_io.specs.Outside.{HasRisen}
+use Rattle.lc_io.specs.Vaults.{Slots, WhereTold, put}
 use Rattle.lc_io.specs.declared.vault.Slot.{Slot}
 use Rattle.lc_io.specs.declared.vault.Slot.TheVariants.{Zero, One}
 
@@ -49,6 +54,21 @@ held files name = bytes_of (files name)
 abbrev pub Known : Option Contents → (Contents → Type 0) → Type 0
 Known None P = Unit {0}
 Known (Some files) P = P files
+
+abbrev pub Has : Option Contents → List ℕ → Type 0
+Has told name = Known told (λ files. IsSome (files name))
+
+abbrev pub Lacks : Option Contents → List ℕ → Type 0
+Lacks told name = Known told (λ files. files name ≡ None)
+
+abbrev pub FailsOr : Type 0 → Option ℕ → Option ℕ → Type 0
+FailsOr P old new = WhereTold old new (λ before now. HasRisen before now ⊎ ((now ≡ before) × P))
+
+abbrev pub HasFailed : Option ℕ → Option ℕ → Type 0
+HasFailed old new = WhereTold old new (λ before now. (before < now) ⊎ (now ≡ 2 ^ 64 - 1))
+
+abbrev pub NotFewer : Option ℕ → Option ℕ → Type 0
+NotFewer old new = WhereTold old new (λ before now. before ≤ now)
 
 abbrev pub FailsBy : {T : Type 0} → ErrorKind → Result T Error → Type 0
 FailsBy kind result = IsErrAnd result (λ e. error_kind e ≡ kind)
@@ -107,13 +127,16 @@ IsMovedOrNot from to old new = IsMoved from to old new ⊎ ((name : List ℕ) �
 abbrev pub next_of : List ℕ → List ℕ
 next_of name = name ++ codes ".new"
 
+abbrev pub LeavesOthers : List ℕ → Contents → Contents → Type 0
+LeavesOthers name old new = (other : List ℕ) → other ≢ next_of name → other ≢ name → new other ≡ old other
+
 pub record Replaces (name bytes : List ℕ) (old new : Contents) : Type 0 where
   pub replaced : new name ≡ Some bytes
-  pub others : (other : List ℕ) → other ≢ next_of name → other ≢ name → new other ≡ old other
+  pub others : LeavesOthers name old new
 
 pub record IsReplacedOrNot (name bytes : List ℕ) (old new : Contents) : Type 0 where
   pub whole : (new name ≡ Some bytes) ⊎ (new name ≡ old name)
-  pub others : (other : List ℕ) → other ≢ next_of name → other ≢ name → new other ≡ old other
+  pub others : LeavesOthers name old new
 
 pub record AreApart (zero one : List ℕ) : Type 0 where
   pub names : zero ≢ one

@@ -3,6 +3,7 @@
 --   IsFailing calls          the next call is one of those that fail
 --   answered calls           after a call that gave its answer
 --   failed calls             after a call that failed
+--   faulted calls            after one more fault of a call whose number is counted already
 --   MemoryInput              the bytes still to come, the most that a read gives, and the calls
 --   read_length input room   how many bytes a read gives to a buffer of this length
 --   MemoryOutput             the bytes taken, how many fit in all, the most that a write takes, and the calls
@@ -28,6 +29,9 @@ answered calls = record calls { number = counted calls.number }
 
 abbrev pub failed : Calls → Calls
 failed calls = record calls { number = counted calls.number; faults = counted calls.faults }
+
+abbrev pub faulted : Calls → Calls
+faulted calls = record calls { faults = counted calls.faults }
 
 pub record MemoryInput : Type 0 where
   pub rest : List ℕ  -- the bytes still to come

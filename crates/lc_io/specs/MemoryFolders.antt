@@ -3,7 +3,7 @@
 --   files_in folder          what the files of a folder in memory hold
 --   HoldsSame old new        each file is as it was
 --   IsCleared name old new   no file has this name; what has another name is as it was
---   IsCounted old new        the calls after one more, which failed exactly if its number is one of those that fail
+--   IsCounted P old new      the calls after one more, which counts as failed exactly if its number is one of those that fail, or P
 --   IsHalfKept file error old new    a call that was to keep this file failed: the file with its name has the first half of its bytes,
 --                            rounded down; what has another name is as it was
 --   LacksMemory file error old new   memory was refused to such a call: no file had that name, and each file is as it was
@@ -29,9 +29,10 @@ pub record IsCleared (name : List ℕ) (old new : Contents) : Type 0 where
   pub gone : new name ≡ None
   pub others : IsTouched name old new
 
-pub record IsCounted (old new : Calls) : Type 0 where
+pub record IsCounted (P : Type 0) (old new : Calls) : Type 0 where
   pub fails : IsFailing old → new ≡ failed old
-  pub answers : ¬ (IsFailing old) → new ≡ answered old
+  pub refused : P → new ≡ failed old
+  pub answers : ¬ (IsFailing old) → ¬ P → new ≡ answered old
 
 pub record IsHalfKept (file : Written) (error : Error) (old new : Contents) : Type 0 where
   pub kind : error_kind error ≡ Other

@@ -1,7 +1,7 @@
 // The calls of something in memory: which of them fail, and how many did.
 ghost use Rattle.std.specs.Prelude.{◌≡◌, ◌⊎◌, ◌↔◌, false, IfOk, OnErr, IsErr, MatchResult};
 ghost use Rattle.lc_io.specs.Outside.{HasRisen};
-ghost use Rattle.lc_io.specs.Memory.{IsFailing, answered, failed};
+ghost use Rattle.lc_io.specs.Memory.{IsFailing, answered, failed, faulted};
 
 use crate::{Failed, NoMemory};
 use std::alloc::Global;
@@ -49,5 +49,12 @@ impl Schedule {
         }
         self.faults = self.faults.saturating_add(1);
         Err(Failed)
+    }
+    /// Counts a fault of a call whose number is counted already, and which was to give its answer.
+    pub(crate) fn fault(&mut self)
+        ensures after { self.new ≡ faulted self.old }
+        ensures risen { HasRisen self.old.faults self.new.faults }
+    {
+        self.faults = self.faults.saturating_add(1);
     }
 }

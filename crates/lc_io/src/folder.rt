@@ -1,28 +1,22 @@
 // What a folder of files promises, and the folders of the library.
-ghost use Rattle.std.specs.Prelude.{◌≡◌, ◌↔◌, Option, None, IfOk, IfErr, IsOk, IsSome, OnOk, OnErr};
+ghost use Rattle.std.specs.Prelude.{◌≡◌, ◌↔◌, ℕ, Option, None, IfOk, IfErr, IsOk, IsSome, OnOk, OnErr, MatchResult};
 ghost use Rattle.std.specs.Io.KnownBytes.{Appends};
 ghost use Rattle.std_io.specs.IoError.{error_kind};
-ghost use Rattle.lc_io.specs.Outside.{AppendsPart};
+ghost use Rattle.lc_io.specs.Outside.{AppendsPart, HasRisen};
 ghost use Rattle.lc_io.specs.Vaults.{WhereTold};
-ghost use Rattle.lc_io.specs.Folders.{Known, IsNew, IsWrittenOn, KeepsName, Opens, IsKept, TouchesOnly, IsTouched, IsMoved, IsMovedOrNot, FailsBy};
+ghost use Rattle.lc_io.specs.Folders.{Known, Has, Lacks, IsNew, IsWrittenOn, KeepsName, Opens, IsKept, TouchesOnly, IsTouched, IsMoved, IsMovedOrNot, FailsBy, FailsOr};
 
 use crate::{Failed, WriterSink, write_whole};
 use std::fs::{Files, OpenFile};
 use std::io::{ErrorKind, Read, Write};
 use std::{fs, io};
 
-/// A file that was made by a folder and is open for writing.
+/// A file that was made by a folder and is open for writing. Its folder writes to it.
 pub trait NewFile {
     ghost use Rattle.lc_io.specs.Folders.{Written};
 
     /// Its name and the bytes that were written to it, if it discloses them. One that does always does.
     ghost written: { Self → Option Written };
-
-    /// Writes bytes at the end of the file, all of them unless it fails.
-    fn put(&mut self, bytes: &[u8]) -> Result<(), Failed>
-        ensures put { OnOk result
-            (WhereTold (written self.old) (written self.new) (IsWrittenOn bytes.now)) }
-        ensures torn { OnErr result (WhereTold (written self.old) (written self.new) KeepsName) };
 }
 
 /// A folder of files, by their names. Those of the library, through which the program reaches the files of the current folder, tell
@@ -32,6 +26,9 @@ pub trait Folder {
 
     /// What the files hold, if the folder discloses it. One that does always does.
     ghost files: { Self → Option Contents };
+
+    /// How often a call has failed for another reason than what the folder holds, if it discloses that. One that does always does.
+    ghost faults: { Self → Option ℕ };
 
     /// A file that is open for reading.
     type Reader: Read + Drop;
@@ -48,29 +45,50 @@ pub trait Folder {
         ensures absent { Known (files self.now) (λ contents. contents name.now ≡ None
             → FailsBy ErrorKind.NotFound result) };
 
-    /// Removes what has this name, and changes no other file. (That it is gone then is no clause: whoever makes a file of this
-    /// name next learns it.)
+    /// Removes what has this name, and changes no other file. If it fails and no fault is counted, nothing has the name.
     fn remove(&mut self, name: &str) -> io::Result<()>
-        ensures { WhereTold (files self.old) (files self.new) (IsTouched name.now) };
+        ensures gone { OnOk result (Lacks (files self.new) name.now) }
+        ensures others { WhereTold (files self.old) (files self.new) (IsTouched name.now) }
+        ensures count { MatchResult result (λ _. faults self.new ≡ faults self.old)
+            (λ _. FailsOr (Lacks (files self.new) name.now) (faults self.old) (faults self.new)) };
 
-    /// Makes a new file, in which nothing is written. It changes no other file.
+    /// Makes a new file, in which nothing is written. It changes no other file. If it fails and no fault is counted, there is a file
+    /// of this name.
     fn open_writer(&mut self, name: &str) -> io::Result<Self::Writer>
         ensures created { IfOk result (λ file. IsNew (files self.old) name.now (Self.Writer.written file)) }
-        ensures others { WhereTold (files self.old) (files self.new) (IsTouched name.now) };
+        ensures others { WhereTold (files self.old) (files self.new) (IsTouched name.now) }
+        ensures count { MatchResult result (λ _. faults self.new ≡ faults self.old)
+            (λ _. FailsOr (Has (files self.old) name.now) (faults self.old) (faults self.new)) };
+
+    /// Writes bytes at the end of a file that this folder made, all of them unless it fails. It changes no other file.
+    fn put(&mut self, file: &mut Self::Writer, bytes: &[u8]) -> Result<(), Failed>
+        ensures put { OnOk result
+            (WhereTold (Self.Writer.written file.old) (Self.Writer.written file.new) (IsWrittenOn bytes.now)) }
+        ensures torn { OnErr result
+            (WhereTold (Self.Writer.written file.old) (Self.Writer.written file.new) KeepsName) }
+        ensures others { WhereTold (files self.old) (files self.new)
+            (TouchesOnly (Self.Writer.written file.old)) }
+        ensures count { MatchResult result (λ _. faults self.new ≡ faults self.old)
+            (λ _. WhereTold (faults self.old) (faults self.new) HasRisen) };
 
     /// Waits until the disk has what was written to a file that this folder made, and closes it: nothing can be written to it
     /// afterwards. Only then does the file have these bytes: one that is not kept may hold any.
     fn keep(&mut self, file: Self::Writer) -> io::Result<()>
         ensures kept { OnOk result
             (WhereTold (files self.old) (files self.new) (IsKept (Self.Writer.written file))) }
-        ensures others { WhereTold (files self.old) (files self.new) (TouchesOnly (Self.Writer.written file)) };
+        ensures others { WhereTold (files self.old) (files self.new) (TouchesOnly (Self.Writer.written file)) }
+        ensures count { MatchResult result (λ _. faults self.new ≡ faults self.old)
+            (λ _. WhereTold (faults self.old) (faults self.new) HasRisen) };
 
-    /// Gives the file `from` the name `to`, in place of one that has it. A call that fails has done so all the same, or changes nothing.
+    /// Gives the file `from` the name `to`, in place of one that has it. A call that fails has done so all the same, or changes nothing;
+    /// if no fault is counted then, there is no file `from`.
     fn move_file(&mut self, from: &str, to: &str) -> io::Result<()>
         ensures moved { OnOk result
             (WhereTold (files self.old) (files self.new) (IsMoved from.now to.now)) }
         ensures torn { OnErr result
-            (WhereTold (files self.old) (files self.new) (IsMovedOrNot from.now to.now)) };
+            (WhereTold (files self.old) (files self.new) (IsMovedOrNot from.now to.now)) }
+        ensures count { MatchResult result (λ _. faults self.new ≡ faults self.old)
+            (λ _. FailsOr (Lacks (files self.old) from.now) (faults self.old) (faults self.new)) };
 
     /// Looks for a file. The answer is an error exactly if there is none, in a folder that tells what it holds.
     fn look_for(&self, name: &str) -> io::Result<()>
@@ -81,22 +99,15 @@ impl<F: Write> NewFile for WriterSink<F> {
     ghost use Rattle.std.specs.Prelude.{None};
 
     ghost written = { λ f. None };
-
-    fn put(&mut self, bytes: &[u8]) -> Result<(), Failed>
-        ensures put { OnOk result (WhereTold None None (IsWrittenOn bytes.now)) }
-        ensures torn { OnErr result (WhereTold None None KeepsName) }
-        ensures whole { OnOk result (Appends (F.contents self.old.inner) (F.contents self.new.inner) bytes.now) }
-        ensures part { OnErr result (AppendsPart (F.contents self.old.inner) (F.contents self.new.inner) bytes.now) }
-    {
-        write_whole(self, bytes)
-    }
 }
 
-// Each call is one of the library's.
+// Each call is one of the library's, but for `put`, which writes to a new file as to any writer.
 impl<R: Files> Folder for R {
     ghost use Rattle.std.specs.Prelude.{None};
 
     ghost files = { λ r. None };
+
+    ghost faults = { λ r. None };
 
     type Reader = <R as Files>::File;
 
@@ -113,6 +124,19 @@ impl<R: Files> Folder for R {
     /// It fails if anything has the name, so that no link is followed.
     fn open_writer(&mut self, name: &str) -> io::Result<WriterSink<<R as Files>::File>> {
         Ok(WriterSink::new(fs::File::create_new(self, name)?))
+    }
+
+    fn put(&mut self, file: &mut WriterSink<<R as Files>::File>, bytes: &[u8]) -> Result<(), Failed>
+        ensures put { OnOk result (WhereTold None None (IsWrittenOn bytes.now)) }
+        ensures torn { OnErr result (WhereTold None None KeepsName) }
+        ensures others { WhereTold None None (TouchesOnly None) }
+        ensures count { MatchResult result (λ _. ◌≡◌ {A = Option ℕ} None None) (λ _. WhereTold None None HasRisen) }
+        ensures whole { OnOk result
+            (Appends (R.File.contents file.old.inner) (R.File.contents file.new.inner) bytes.now) }
+        ensures part { OnErr result
+            (AppendsPart (R.File.contents file.old.inner) (R.File.contents file.new.inner) bytes.now) }
+    {
+        write_whole(file, bytes)
     }
 
     fn keep(&mut self, file: WriterSink<<R as Files>::File>) -> io::Result<()> {

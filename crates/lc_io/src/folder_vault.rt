@@ -3,9 +3,9 @@ ghost use Rattle.std.specs.Prelude.{◌≡◌, ◌<◌, ◌≤◌, length, take,
 ghost use Rattle.std.specs.Io.KnownBytes.{Consumes, IsAtEnd};
 ghost use Rattle.lc_io.specs.Outside.{HasRisen};
 ghost use Rattle.lc_io.specs.Vaults.{WhereTold, IsPut, IsTorn, Loads};
-ghost use Rattle.lc_io.specs.Folders.{AreApart, IsMade, IsPutOrNot, IsReplacedOrNot, IsTouched, Known, LoadsFile, Replaces, next_of, name_among, slots_in};
+ghost use Rattle.lc_io.specs.Folders.{AreApart, HasFailed, IsMade, IsPutOrNot, IsReplacedOrNot, IsTouched, Known, LeavesOthers, LoadsFile, NotFewer, Replaces, next_of, name_among, slots_in};
 
-use crate::{Failed, Folder, NewFile, NoMemory, ReaderSource, Slot, Source, Vault, read_to_limit};
+use crate::{Failed, Folder, NoMemory, ReaderSource, Slot, Source, Vault, read_to_limit};
 use std::alloc::Global;
 use std::io;
 use std::marker::Model;
@@ -137,16 +137,19 @@ fn load_file<R: Folder>(
 }
 
 // Makes a new file of these bytes, in place of what has the name, waits until the disk has them, and closes it.
-#[tactic(auto, using(crate::proofs::FolderLaws::made_file, crate::proofs::FolderLaws::torn_file))]
+#[tactic(auto, using(crate::proofs::FaultLaws::make_file_laws))]
 fn make_file<R: Folder>(folder: &mut R, name: &str, bytes: &[u8]) -> Result<(), Failed>
     ensures made { OnOk result (WhereTold (R.files folder.old) (R.files folder.new) (IsMade name.now bytes.now)) }
     ensures torn { OnErr result (WhereTold (R.files folder.old) (R.files folder.new) (IsTouched name.now)) }
+    ensures failed { OnErr result (Known (R.files folder.old)
+        (λ _. HasFailed (R.faults folder.old) (R.faults folder.new))) }
+    ensures counted { OnOk result (NotFewer (R.faults folder.old) (R.faults folder.new)) }
 {
     let _ = folder.remove(name);
     let Ok(mut file) = folder.open_writer(name) else {
         return Err(Failed);
     };
-    file.put(bytes)?;
+    folder.put(&mut file, bytes)?;
     match folder.keep(file) {
         Ok(()) => Ok(()),
         Err(_) => Err(Failed),
@@ -155,11 +158,13 @@ fn make_file<R: Folder>(folder: &mut R, name: &str, bytes: &[u8]) -> Result<(), 
 
 // Replaces what a file of the folder holds: a file with another name is made first, and then has its name. So a call that fails leaves
 // in the file what it had, or all of the bytes.
-#[tactic(auto, using(crate::proofs::FolderLaws::left_whole, crate::proofs::FolderLaws::moved_whole))]
+#[tactic(auto, using(crate::proofs::FolderLaws::left_whole, crate::proofs::FolderLaws::moved_whole, crate::proofs::FaultLaws::unmoved))]
 fn replace<R: Folder>(folder: &mut R, file: &SlotFile, bytes: &[u8]) -> Result<(), Failed>
     ensures whole { OnOk result (WhereTold (R.files folder.old) (R.files folder.new) (Replaces file.now bytes.now)) }
     ensures torn { OnErr result
         (WhereTold (R.files folder.old) (R.files folder.new) (IsReplacedOrNot file.now bytes.now)) }
+    ensures failed { OnErr result (Known (R.files folder.old)
+        (λ _. HasFailed (R.faults folder.old) (R.faults folder.new))) }
 {
     make_file(folder, file.next(), bytes)?;
     match folder.move_file(file.next(), file.name()) {
@@ -185,6 +190,8 @@ impl<R: Folder + Drop> Vault for FolderVault<R> {
             (λ _. HasRisen self.old.faults self.new.faults) }
         ensures absent { Known (R.files self.old.folder)
             (λ files. files (name_among slot self.old.zero self.old.one) ≡ None → IsOk result) }
+        ensures folder { self.new.folder ≡ self.old.folder }
+        ensures names { (self.new.zero ≡ self.old.zero) × (self.new.one ≡ self.old.one) }
     {
         let file = file_of(&self.zero, &self.one, slot);
         match load_file(&self.rt, self.alloc, file.name(), buf) {
@@ -197,8 +204,9 @@ impl<R: Folder + Drop> Vault for FolderVault<R> {
     }
 
     /// Writes the bytes to a new file, waits until they are on the disk, and renames it. A store that fails leaves in the slot what it
-    /// had, or all of the bytes.
-    #[tactic(auto, using(crate::proofs::FolderLaws::whole_slots, crate::proofs::FolderLaws::torn_slots))]
+    /// had, or all of the bytes. If the folder tells what it holds and counts its faults, it counted one then. No file is touched but
+    /// that of the slot and the one that has its name with `.new` at its end.
+    #[tactic(auto, using(crate::proofs::FolderLaws::store_laws))]
     fn store(&mut self, slot: Slot, bytes: &[u8]) -> Result<(), Failed>
         ensures stored { OnOk result (WhereTold (slots_in self.old.zero self.old.one (R.files self.old.folder))
             (slots_in self.new.zero self.new.one (R.files self.new.folder)) (IsPut slot bytes.now)) }
@@ -206,6 +214,11 @@ impl<R: Folder + Drop> Vault for FolderVault<R> {
             (slots_in self.new.zero self.new.one (R.files self.new.folder)) (IsTorn slot)) }
         ensures whole { OnErr result (WhereTold (slots_in self.old.zero self.old.one (R.files self.old.folder))
             (slots_in self.new.zero self.new.one (R.files self.new.folder)) (IsPutOrNot slot bytes.now)) }
+        ensures failed { OnErr result (Known (R.files self.old.folder)
+            (λ _. HasFailed (R.faults self.old.folder) (R.faults self.new.folder))) }
+        ensures others { WhereTold (R.files self.old.folder) (R.files self.new.folder)
+            (LeavesOthers (name_among slot self.old.zero self.old.one)) }
+        ensures names { (self.new.zero ≡ self.old.zero) × (self.new.one ≡ self.old.one) }
         ensures count { MatchResult result (λ _. self.new.faults ≡ self.old.faults)
             (λ _. HasRisen self.old.faults self.new.faults) }
     {

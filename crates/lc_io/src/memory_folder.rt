@@ -1,11 +1,12 @@
 // A folder in memory.
-ghost use Rattle.std.specs.Prelude.{◌≡◌, ◌⊎◌, ◌↔◌, ℕ, List, [], Option, None, Some, true, option_map, OnOk, OnErr, IfOk, IfErr, IsOk, IsErr, IsSome, string_bytes};
+ghost use Rattle.std.specs.Prelude.{◌≡◌, ◌⊎◌, ◌↔◌, ℕ, List, [], Option, None, Some, true, option_map, OnOk, OnErr, IfOk, IfErr, IsOk, IsErr, IsSome, MatchResult, string_bytes};
 ghost use Rattle.std.specs.Io.Cursor.{cursor_remaining};
 ghost use Rattle.std_io.specs.IoError.{error_kind};
-ghost use Rattle.lc_io.specs.Memory.{IsFailing};
+ghost use Rattle.lc_io.specs.Memory.{IsFailing, answered, failed, faulted};
 ghost use Rattle.lc_io.specs.MemoryFolders.{HoldsSame, IsCleared, IsCounted, IsHalfKept, LacksMemory, files_in};
+ghost use Rattle.lc_io.specs.Outside.{HasRisen};
 ghost use Rattle.lc_io.specs.Vaults.{WhereTold};
-ghost use Rattle.lc_io.specs.Folders.{FailsBy, FailsOnlyBy, Known, IsMade, IsTouched, IsKept, IsMoved, IsMovedOrNot, IsNew, IsWrittenOn, KeepsName, Opens, TouchesOnly};
+ghost use Rattle.lc_io.specs.Folders.{FailsBy, FailsOnlyBy, FailsOr, Has, Known, Lacks, IsMade, IsTouched, IsKept, IsMoved, IsMovedOrNot, IsNew, IsWrittenOn, KeepsName, Opens, TouchesOnly};
 
 use crate::calls::Schedule;
 use crate::{Failed, Folder, NewFile, NoMemory};
@@ -15,7 +16,7 @@ use std::io;
 use std::io::{Cursor, ErrorKind};
 use std::marker::Model;
 
-/// A new file of a folder in memory. It has what was written to it, and the folder has it once it is kept.
+/// A new file of a folder in memory. It has what the folder wrote to it, and the folder has it once it is kept.
 #[derive(Drop)]
 pub struct MemoryFile {
     name: String,
@@ -35,24 +36,12 @@ impl NewFile for MemoryFile {
     ghost use Rattle.std.specs.Prelude.{Some};
 
     ghost written = { λ f. Some f };
-
-    /// Fails only if memory runs out, and never for no bytes. Then nothing is written.
-    fn put(&mut self, bytes: &[u8]) -> Result<(), Failed>
-        ensures put { OnOk result (WhereTold (Some self.old) (Some self.new) (IsWrittenOn bytes.now)) }
-        ensures torn { OnErr result (WhereTold (Some self.old) (Some self.new) KeepsName) }
-        ensures same { OnErr result (self.new ≡ self.old) }
-        ensures nothing { bytes.now ≡ [] → IsOk result }
-    {
-        match self.bytes.extend_from_slice(bytes) {
-            Ok(()) => Ok(()),
-            Err(_) => Err(Failed),
-        }
-    }
 }
 
 /// A folder that has its files in memory and tells what they hold. Removing, making, keeping and renaming a file fail at the calls
 /// that it was made to fail at, and for want of memory, but for removing, which takes none; removing and renaming also if there is no
-/// such file, and making if there is one. A call that fails changes nothing, but for one that is to keep a file.
+/// such file, and making if there is one. Writing to a new file fails for want of memory alone. A call that fails changes nothing, but
+/// for one that is to keep a file. A number that fails and want of memory count as faults.
 #[derive(Drop)]
 pub struct MemoryFolder {
     alloc: Global,
@@ -78,7 +67,9 @@ impl MemoryFolder {
     fn pass(&mut self) -> io::Result<()>
         ensures fails { IsErr result ↔ IsFailing self.old.calls }
         ensures other { FailsOnlyBy ErrorKind.Other result }
-        ensures calls { IsCounted self.old.calls self.new.calls }
+        ensures calls { MatchResult result (λ _. self.new.calls ≡ answered self.old.calls)
+            (λ _. self.new.calls ≡ failed self.old.calls) }
+        ensures risen { OnErr result (HasRisen self.old.calls.faults self.new.calls.faults) }
         ensures same { HoldsSame (files_in self.old) (files_in self.new) }
     {
         match self.calls.count(true) {
@@ -96,6 +87,52 @@ impl MemoryFolder {
         ensures calls { self.new.calls ≡ self.old.calls }
     {
         self.files.insert(name, bytes)?;
+        Ok(())
+    }
+
+    // Returns what a call came to, of which memory was refused if it failed: then it counts as a fault.
+    fn counted<T>(&mut self, came: io::Result<T>) -> io::Result<T>
+        ensures is { result ≡ came }
+        ensures calls { MatchResult result (λ _. self.new.calls ≡ self.old.calls)
+            (λ _. self.new.calls ≡ faulted self.old.calls) }
+        ensures risen { OnErr result (HasRisen self.old.calls.faults self.new.calls.faults) }
+        ensures same { HoldsSame (files_in self.old) (files_in self.new) }
+    {
+        if came.is_err() {
+            self.calls.fault();
+        }
+        came
+    }
+
+    // Makes a file without bytes, of a name that no file has. Fails only if memory runs out.
+    fn make(&mut self, name: &str) -> io::Result<MemoryFile>
+        ensures created { IfOk result (λ file. file ≡ record { name = name.now; bytes = [] }) }
+        ensures made { OnOk result (IsMade name.now [] (files_in self.old) (files_in self.new)) }
+        ensures fails { FailsOnlyBy ErrorKind.OutOfMemory result }
+        ensures same { OnErr result (HoldsSame (files_in self.old) (files_in self.new)) }
+        ensures calls { self.new.calls ≡ self.old.calls }
+    {
+        let file = MemoryFile {
+            name: String::from_str(self.alloc, name)?,
+            bytes: Vec::new(self.alloc),
+        };
+        self.set(String::from_str(self.alloc, name)?, Vec::new(self.alloc))?;
+        Ok(file)
+    }
+
+    // Gives a file another name. Fails only if memory runs out.
+    fn rename(&mut self, from: &str, to: &str) -> io::Result<()>
+        requires { IsSome (files_in self.old from.now) }
+        ensures moved { OnOk result (IsMoved from.now to.now (files_in self.old) (files_in self.new)) }
+        ensures fails { FailsOnlyBy ErrorKind.OutOfMemory result }
+        ensures same { OnErr result (HoldsSame (files_in self.old) (files_in self.new)) }
+        ensures calls { self.new.calls ≡ self.old.calls }
+    {
+        let bytes = self.copied(from)?;
+        self.set(String::from_str(self.alloc, to)?, bytes)?;
+        if from != to {
+            let _ = self.clear(from);
+        }
         Ok(())
     }
 
@@ -135,6 +172,8 @@ impl Folder for MemoryFolder {
 
     ghost files = { λ s. Some (files_in s) };
 
+    ghost faults = { λ s. Some s.calls.faults };
+
     type Reader = Cursor<Vec<u8>>;
 
     type Writer = MemoryFile;
@@ -153,15 +192,20 @@ impl Folder for MemoryFolder {
     }
 
     /// Fails exactly if the number of the call is one that fails, or there is no such file. Takes no memory.
+    #[tactic(auto, using(crate::proofs::MemoryLaws::rose_or, crate::proofs::MemoryLaws::same_or))]
     fn remove(&mut self, name: &str) -> io::Result<()>
         ensures others { WhereTold (Some (files_in self.old)) (Some (files_in self.new)) (IsTouched name.now) }
         ensures failing { IsFailing self.old.calls → FailsBy ErrorKind.Other result }
         ensures missing { ¬ (IsFailing self.old.calls) → files_in self.old name.now ≡ None
             → FailsBy ErrorKind.NotFound result }
         ensures always { ¬ (IsFailing self.old.calls) → IsSome (files_in self.old name.now) → IsOk result }
-        ensures gone { OnOk result (IsCleared name.now (files_in self.old) (files_in self.new)) }
+        ensures gone { OnOk result (Lacks (Some (files_in self.new)) name.now) }
+        ensures cleared { OnOk result (IsCleared name.now (files_in self.old) (files_in self.new)) }
         ensures same { OnErr result (HoldsSame (files_in self.old) (files_in self.new)) }
-        ensures calls { IsCounted self.old.calls self.new.calls }
+        ensures count { MatchResult result (λ _. Some self.new.calls.faults ≡ Some self.old.calls.faults)
+            (λ _. FailsOr (Lacks (Some (files_in self.new)) name.now)
+            (Some self.old.calls.faults) (Some self.new.calls.faults)) }
+        ensures calls { IsCounted ⊥ self.old.calls self.new.calls }
     {
         self.pass()?;
         match self.clear(name) {
@@ -171,6 +215,7 @@ impl Folder for MemoryFolder {
     }
 
     /// Fails exactly if the number of the call is one that fails, or there is such a file, or for want of memory.
+    #[tactic(auto, using(crate::proofs::MemoryLaws::rose_or, crate::proofs::MemoryLaws::same_or, crate::proofs::MemoryLaws::or_came_to))]
     fn open_writer(&mut self, name: &str) -> io::Result<MemoryFile>
         ensures created { IfOk result (λ file. IsNew (Some (files_in self.old)) name.now (Some file)) }
         ensures others { WhereTold (Some (files_in self.old)) (Some (files_in self.new)) (IsTouched name.now) }
@@ -181,22 +226,42 @@ impl Folder for MemoryFolder {
             → FailsOnlyBy ErrorKind.OutOfMemory result }
         ensures made { OnOk result (IsMade name.now [] (files_in self.old) (files_in self.new)) }
         ensures same { OnErr result (HoldsSame (files_in self.old) (files_in self.new)) }
-        ensures calls { IsCounted self.old.calls self.new.calls }
+        ensures count { MatchResult result (λ _. Some self.new.calls.faults ≡ Some self.old.calls.faults)
+            (λ _. FailsOr (Has (Some (files_in self.old)) name.now)
+            (Some self.old.calls.faults) (Some self.new.calls.faults)) }
+        ensures calls { IsCounted (IsErr result × (files_in self.old name.now ≡ None)) self.old.calls self.new.calls }
     {
         self.pass()?;
         if self.has(name) {
             return Err(io::Error::from(ErrorKind::AlreadyExists));
         }
-        let file = MemoryFile {
-            name: String::from_str(self.alloc, name)?,
-            bytes: Vec::new(self.alloc),
-        };
-        self.set(String::from_str(self.alloc, name)?, Vec::new(self.alloc))?;
-        Ok(file)
+        let made = self.make(name);
+        self.counted(made)
+    }
+
+    /// Fails only for want of memory, and never for no bytes. Then nothing is written. The folder has the bytes once the file is kept.
+    fn put(&mut self, file: &mut MemoryFile, bytes: &[u8]) -> Result<(), Failed>
+        ensures put { OnOk result (WhereTold (Some file.old) (Some file.new) (IsWrittenOn bytes.now)) }
+        ensures torn { OnErr result (WhereTold (Some file.old) (Some file.new) KeepsName) }
+        ensures others { WhereTold (Some (files_in self.old)) (Some (files_in self.new)) (TouchesOnly (Some file.old)) }
+        ensures unwritten { OnErr result (file.new ≡ file.old) }
+        ensures nothing { bytes.now ≡ [] → IsOk result }
+        ensures same { HoldsSame (files_in self.old) (files_in self.new) }
+        ensures count { MatchResult result (λ _. Some self.new.calls.faults ≡ Some self.old.calls.faults)
+            (λ _. WhereTold (Some self.old.calls.faults) (Some self.new.calls.faults) HasRisen) }
+        ensures calls { MatchResult result (λ _. self.new.calls ≡ self.old.calls)
+            (λ _. self.new.calls ≡ faulted self.old.calls) }
+    {
+        if file.bytes.extend_from_slice(bytes).is_ok() {
+            return Ok(());
+        }
+        self.calls.fault();
+        Err(Failed)
     }
 
     /// Fails exactly if the number of the call is one that fails, or for want of memory, which is taken only if no file has the name
     /// any more. A call that fails by its number leaves the first half of the bytes, rounded down.
+    #[tactic(auto, using(crate::proofs::MemoryLaws::still_rose, crate::proofs::MemoryLaws::came_to))]
     fn keep(&mut self, file: MemoryFile) -> io::Result<()>
         ensures kept { OnOk result
             (WhereTold (Some (files_in self.old)) (Some (files_in self.new)) (IsKept (Some file))) }
@@ -205,7 +270,9 @@ impl Folder for MemoryFolder {
         ensures torn { IfErr result (λ error.
             (IsFailing self.old.calls × IsHalfKept file error (files_in self.old) (files_in self.new))
             ⊎ LacksMemory file error (files_in self.old) (files_in self.new)) }
-        ensures calls { IsCounted self.old.calls self.new.calls }
+        ensures count { MatchResult result (λ _. Some self.new.calls.faults ≡ Some self.old.calls.faults)
+            (λ _. WhereTold (Some self.old.calls.faults) (Some self.new.calls.faults) HasRisen) }
+        ensures calls { IsCounted (IsErr result) self.old.calls self.new.calls }
     {
         let MemoryFile { name, mut bytes } = file;
         if let Err(fault) = self.pass() {
@@ -213,10 +280,12 @@ impl Folder for MemoryFolder {
             self.set(name, bytes)?;
             return Err(fault);
         }
-        self.set(name, bytes)
+        let kept = self.set(name, bytes);
+        self.counted(kept)
     }
 
     /// Fails exactly if the number of the call is one that fails, or there is no such file, or for want of memory.
+    #[tactic(auto, using(crate::proofs::MemoryLaws::moved_on, crate::proofs::MemoryLaws::rose_or, crate::proofs::MemoryLaws::same_or, crate::proofs::MemoryLaws::or_came_to))]
     fn move_file(&mut self, from: &str, to: &str) -> io::Result<()>
         ensures moved { OnOk result
             (WhereTold (Some (files_in self.old)) (Some (files_in self.new)) (IsMoved from.now to.now)) }
@@ -228,15 +297,17 @@ impl Folder for MemoryFolder {
         ensures refused { ¬ (IsFailing self.old.calls) → IsSome (files_in self.old from.now)
             → FailsOnlyBy ErrorKind.OutOfMemory result }
         ensures same { OnErr result (HoldsSame (files_in self.old) (files_in self.new)) }
-        ensures calls { IsCounted self.old.calls self.new.calls }
+        ensures count { MatchResult result (λ _. Some self.new.calls.faults ≡ Some self.old.calls.faults)
+            (λ _. FailsOr (Lacks (Some (files_in self.old)) from.now)
+            (Some self.old.calls.faults) (Some self.new.calls.faults)) }
+        ensures calls { IsCounted (IsErr result × IsSome (files_in self.old from.now)) self.old.calls self.new.calls }
     {
         self.pass()?;
-        let bytes = self.copied(from)?;
-        self.set(String::from_str(self.alloc, to)?, bytes)?;
-        if from != to {
-            let _ = self.clear(from);
+        if !self.has(from) {
+            return Err(io::Error::from(ErrorKind::NotFound));
         }
-        Ok(())
+        let moved = self.rename(from, to);
+        self.counted(moved)
     }
 
     /// The error says that there is no such file.

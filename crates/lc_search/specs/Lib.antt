@@ -4,3 +4,4 @@ pub mod Levels
 pub mod Found
 pub mod Resuming
 pub mod Course
+pub mod Telling
