@@ -267,7 +267,7 @@ check_explanations() {
 }
 
 # the programs for people as filters: a pipe whose reader has gone ends them silently; where a stream fails they say so in a line, and
-# end with 4 or 5 as the program does
+# end with 4 or 5 as the program does; and a script that is too long ends them with 12
 are_good_filters() {
     local certificate=examples/certificates/golay_23.json waits='import sys; sys.stdin.buffer.read(1)' line
     yes '[[1,0,1]]' | head -n 20000 >"$room/matrices"
@@ -289,7 +289,9 @@ residue_code.py 23
 from_matrix.py $room/matrix
 plan.py --help
 LIST
-    ends 4 'codes: source fault' python3 -B tools/pretty.py <&- && ends 4 'codes: source fault' python3 -B tools/explain.py "$program" - <&- &&
+    head -c 9999999 /dev/zero | tr '\0' ' ' >"$room/long"
+    ends 12 'codes: input too long' python3 -B tools/explain.py "$program" "$room/long" &&
+        ends 4 'codes: source fault' python3 -B tools/pretty.py <&- && ends 4 'codes: source fault' python3 -B tools/explain.py "$program" - <&- &&
         ends 4 "standard input can't be read" python3 -B tools/check_certificate.py <&-
 }
 

@@ -67,6 +67,8 @@ def main():
             check("line: it is cleared in the end", not shown or last[-1] == "")
         else:
             check("no: nothing is shown", shown == "")
+    status, out, shown = at_terminal([*tool, "line", program, "run"], b" " * 2**22)
+    check("a script that is too long has its line and its status", (status, out) == (12, b"") and "too long" in shown)
     status, out, shown = at_terminal([*tool, "line", program, "run", "workers=0"], b"")
     check("a refused argument has its line and its status", (status, out) == (2, b"") and "refused" in shown)
     for text in failures:

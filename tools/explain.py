@@ -513,7 +513,7 @@ def fault_of(text):
 
 def printed(program, command, text):
     """What the program prints, and its status."""
-    done = subprocess.run([*program, command], input=text, stdout=subprocess.PIPE, check=False)
+    done = filters.run([*program, command], text, stdout=subprocess.PIPE)
     sys.stdout.buffer.write(done.stdout)
     sys.stdout.buffer.flush()
     return done.stdout, done.returncode

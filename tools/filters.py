@@ -2,9 +2,11 @@
 
 `end(main)` runs `main`, which returns a status, and ends with it. A pipe whose reader has gone and Ctrl-C end the program silently, as
 they end any other; a stream that fails ends it as it ends `codes`: a line, and status 4 for standard input, 5 for standard output.
+`run` runs a command on a text, all of which it need not read.
 """
 import os
 import signal
+import subprocess
 import sys
 
 UNREAD, UNWRITTEN = 4, 5
@@ -26,6 +28,17 @@ def read_input():
         return sys.stdin.buffer.read()
     except OSError:
         return fault("source fault", UNREAD)
+
+
+def run(command, text, **options):
+    """What `subprocess.run` gives of a command with `text` as its standard input. One that ends before it has read all of it, as `codes`
+    does if there is too much, doesn't end this program."""
+    before = signal.signal(signal.SIGPIPE, signal.SIG_IGN) if hasattr(signal, "SIGPIPE") else None
+    try:
+        return subprocess.run(command, input=text, check=False, **options)
+    finally:
+        if before is not None:
+            signal.signal(signal.SIGPIPE, before)
 
 
 def end(main):

@@ -155,6 +155,8 @@ def copy_output(stream, terminal):
 
 
 def feed(stream, script):
+    # (a session that ends before it has read all of it doesn't end this program: for this thread alone the pipe is no signal)
+    signal.pthread_sigmask(signal.SIG_BLOCK, [signal.SIGPIPE])
     try:
         stream.write(script)
         stream.close()

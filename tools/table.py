@@ -16,7 +16,6 @@ certificate rejected, and says which.
 import argparse
 import html
 import re
-import subprocess
 import sys
 from dataclasses import dataclass, field
 from pathlib import Path
@@ -98,7 +97,7 @@ def entries(words):
 # ---- rows ----------------------------------------------------------------------------------------------------------
 
 def answered(given, script):
-    done = subprocess.run([given.program, "run", f"budget={given.budget}", f"workers={given.workers}"], input=script.encode(), capture_output=True)
+    done = filters.run([given.program, "run", f"budget={given.budget}", f"workers={given.workers}"], script.encode(), capture_output=True)
     return done.stdout.decode().splitlines(), done.returncode, done.stderr.decode().splitlines()
 
 
@@ -131,7 +130,7 @@ def proved(given, row, line):
     row.high, row.certificate = row.low, line
     k = len(check_certificate.systematic(over, rows, range(row.length))[1])
     row.cost = check_certificate.levels_and_cost(k, over.q, sets)[1]
-    done = subprocess.run([given.program, "check"], input=line.encode(), capture_output=True)
+    done = filters.run([given.program, "check"], line.encode(), capture_output=True)
     verdicts = {"codes check": done.stdout.decode().strip()}
     if row.cost <= given.words:
         verdicts["check_certificate.py"] = second_verdict(line)
