@@ -65,6 +65,7 @@ def main():
             last = shown.split("\r")
             check("line: the line is shown", any(LINE.match(piece) for piece in last))
             check("line: it is cleared in the end", not shown or last[-1] == "")
+            check("line: the time that is left fits 80 columns", all(piece.rstrip().endswith(" left") for piece in last if "at mo" in piece))
         else:
             check("no: nothing is shown", shown == "")
     status, out, shown = at_terminal([*tool, "line", program, "run"], b" " * 2**22)

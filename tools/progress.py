@@ -79,7 +79,8 @@ class Watch:
             made.phases = list(made.all_phases())
         return made.phases
 
-    def line(self):
+    def line(self, wide):
+        """The line of a terminal with so many columns. Where it would be too long the rate is left out, and then what is left over is cut."""
         if self.last is None:
             return ""
         parts = [f"query {self.number}"]
@@ -96,7 +97,9 @@ class Watch:
             if phase:
                 left = phases[-1].until - self.last.blocks
                 parts.append(f"at most {plan.duration(left / rate)} left")
-        return "  ".join(parts)
+        if len(parts) == 5 and len("  ".join(parts)) > wide:
+            del parts[3]
+        return "  ".join(parts)[:wide]
 
 
 class Terminal:
@@ -105,11 +108,10 @@ class Terminal:
     def __init__(self, has_line):
         self.has_line, self.shown, self.lock = has_line, "", threading.Lock()
 
-    def show(self, text):
+    def show(self, watch):
         if not self.has_line:
             return
-        wide = shutil.get_terminal_size((80, 24)).columns - 1
-        text = text[:wide]
+        text = watch.line(shutil.get_terminal_size((80, 24)).columns - 1)
         with self.lock:
             if text != self.shown:
                 self.write("\r" + text + " " * max(0, len(self.shown) - len(text)))
@@ -182,7 +184,7 @@ def session(has_line, words, script):
         while output.is_alive():
             output.join(PAUSE)
             if output.is_alive():
-                terminal.show(watch.line())
+                terminal.show(watch)
         threads[1].join()
         terminal.clear()
         return running.wait()
