@@ -210,8 +210,18 @@ def copied(room):
 
 def main(words):
     folder = FOLDER
+    if words in (["-h"], ["--help"]):
+        print(__doc__.strip())
+        return 0
     if words[:1] == ["--bugs"]:
+        if len(words) < 3:
+            print("usage: tools/planted_bugs.py [--bugs FOLDER] CRATE..", file=sys.stderr)
+            return 2
         folder, words = words[1], words[2:]
+    absent = [name for name in words if not os.path.isfile(os.path.join(folder, f"{name}.bugs"))]
+    if absent:
+        print(f"planted_bugs.py: {', '.join(absent)}: no such file of bugs in {folder}", file=sys.stderr)
+        return 2
     if not words:
         return 0 if all_can_be_planted() else 1
     room = tempfile.mkdtemp(prefix="planted-")
