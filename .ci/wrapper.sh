@@ -218,10 +218,10 @@ mistakes() {
 # what is written below the line of the rules
 reasons() {
     local follow='after run come workers=N, round=N, budget=N, keep=yes and slice=N, or none of them' blocks='budget is a number from 0 to 1099511627776'
+    local commands='a command is run, resume, check, summary, part or join, or explain, pretty, page, install, test or prove; see ./codes --help'
     refused 0 'a command is missing: run, resume, check, summary, part or join; see ./codes --help' &&
-        refused 0 'a command is run, resume, check, summary, part or join; see ./codes --help' nonsense &&
-        refused 0 'a command is run, resume, check, summary, part or join; see ./codes --help' --unproved nonsense &&
-        refused 0 'the command is written run' Run &&
+        refused 0 "$commands" nonsense && refused 0 "$commands" --unproved nonsense &&
+        refused 0 'the command is written run' Run && refused 0 'the command is written explain' --explain my.codes &&
         refused 0 'a command comes first: ./codes run workers=2 < FILE' workers=2 &&
         refused 0 'run reads a script from standard input: ./codes run < my.codes' my.codes &&
         refused 1 'run reads a script from standard input: ./codes run < my.codes' run my.codes &&
@@ -239,7 +239,8 @@ reasons() {
         refused 1 "write workers=$(getconf _NPROCESSORS_ONLN)" run workers=auto && refused 2 'workers is there already' run workers=2 workers=2 &&
         refused 1 'write keep=yes' run keep=on && refused 1 'keep takes a value after =, without blanks: keep=yes' run keep &&
         refused 1 'slice needs keep=yes, since the session goes on from its checkpoint' run slice=5 &&
-        refused 1 "$follow" run seed=5 && refused 1 "$follow" run speed=5 && refused 1 'summary needs seed=N: ./codes summary seed=1' summary
+        refused 1 "$follow" run seed=5 && refused 1 "$follow" run speed=5 &&
+        refused 1 'progress comes before the command: ./codes progress=no run < FILE' run progress=no && refused 1 'summary needs seed=N: ./codes summary seed=1' summary
 }
 
 # The script refuses what the program refuses, with its line, and nothing else.

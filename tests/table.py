@@ -80,10 +80,11 @@ def other_entries(folder, program):
 
 
 def mistakes(folder, program):
+    (folder / "bad.txt").write_text("1 0 1\n0 1\n")
     (folder / "fault.list").write_text("good: BinaryGolayCode()\nbad: BCHCode(4, 3, GF(2))\n")
     status, said, lines = table(folder, program, str(folder / "fault.list"))
     expect("a fault", (status, said, "good" in lines), (1, "bad: fault 5 at 5\n", True))
-    for text, wanted in (("x y: BinaryGolayCode()\n", "wanted `NAME: CALL`"), ("a: BinaryGolayCode()\na: TernaryGolayCode()\n", "there twice: a"), ("a: no.such\n", "no.such")):
+    for text, wanted in (("x y: BinaryGolayCode()\n", "wanted `NAME: CALL`"), ("a: BinaryGolayCode()\na: TernaryGolayCode()\n", "there twice: a"), ("a: no.such\n", "no.such: No such file or directory\n"), ("a: bad.txt\n", "bad.txt:2:3: ")):
         (folder / "wrong.list").write_text(text)
         status, said, _ = table(folder, program, str(folder / "wrong.list"))
         expect(text, (status, wanted in said), (1, True))

@@ -94,7 +94,7 @@ why_no_command() {
     small=$(in_small_letters "${1#"${1%%[!-]*}"}")
     case $small in
     '') echo "a command is missing: run, resume, check, summary, part or join; see ./codes --help" ;;
-    run | resume | check | summary | part | join) echo "the command is written $small" ;;
+    run | resume | check | summary | part | join | explain | pretty | page | install | test | prove) echo "the command is written $small" ;;
     workers=* | round=* | budget=* | keep=* | slice=*) echo "a command comes first: ./codes run $1 < FILE" ;;
     seed=*) echo "a command comes first: ./codes summary $1" ;;
     from=* | count=*) echo "a command comes first: ./codes part $1" ;;
@@ -102,7 +102,7 @@ why_no_command() {
         if is_file_name "$1"; then
             echo "run reads a script from standard input: ./codes run < $(quoted "$1")"
         else
-            echo "a command is run, resume, check, summary, part or join; see ./codes --help"
+            echo "a command is run, resume, check, summary, part or join, or explain, pretty, page, install, test or prove; see ./codes --help"
         fi
         ;;
     esac
@@ -174,6 +174,7 @@ why_refused() {
     esac
     case $key in
     workers | round | budget | slice | seed | keep | from | count) ;;
+    progress) echo "progress comes before the command: ./codes progress=no run < FILE"; return ;;
     *)
         if is_file_name "$2" && [ "$1" != summary ]; then
             echo "$1 reads $([ "$1" = join ] && echo 'lines of parts' || echo 'a script') from standard input: ./codes $1 < $(quoted "$2")"

@@ -74,7 +74,7 @@ describe() {
 is_current() {
     why='there is no program of the sources in crates/'
     [ -f "$1/MADE" ] || return 1
-    why="there is no program of the sources for $2"
+    why="there is no program of the sources for $2 (${1##*/}/ has $(made_of "$1" levels))"
     [ -f "$1/codes-$2" ] || return 1
     seen=$top/out/seen-${1##*/}-$2
     signature=$(signature "$1" "$2")

@@ -63,18 +63,28 @@ class Row:
 
 # ---- entries -------------------------------------------------------------------------------------------------------
 
+def text_of(file):
+    try:
+        return file.read_text(encoding="utf-8-sig")
+    except (OSError, UnicodeDecodeError) as error:
+        sys.exit(f"{file}: {getattr(error, 'strerror', None) or 'this is no text in UTF-8'}")
+
+
 def script_of(file):
     """The script that gives the name C to the code of a file, and how the table calls it."""
-    text = file.read_text(encoding="utf-8-sig")
+    text = text_of(file)
     if file.suffix == ".codes":
         return text, file.name
-    q, rows, _ = from_matrix.matrix(text)
+    try:
+        q, rows, _ = from_matrix.matrix(text)
+    except from_matrix.Refused as refused:
+        sys.exit(f"{file}:{refused.line}:{refused.column}: {refused.text}")
     return from_matrix.script(q, rows, False, "").rsplit("C;\n", 1)[0], file.name
 
 
 def of_list(file):
     """The names, scripts and calls of the lines of a list."""
-    for number, line in enumerate(file.read_text(encoding="utf-8-sig").splitlines(), 1):
+    for number, line in enumerate(text_of(file).splitlines(), 1):
         if not line.strip() or line.startswith("#"):
             continue
         name, colon, call = (part.strip() for part in line.partition(":"))
@@ -205,22 +215,19 @@ def write(folder, rows, title):
 
 def arguments():
     parser = argparse.ArgumentParser(description=__doc__.split("\n")[0], epilog="See the head of this file.")
-    parser.add_argument("--budget", type=int, default=2**20, metavar="N")
-    parser.add_argument("--workers", type=int, default=1, metavar="N")
-    parser.add_argument("--words", type=int, default=10**6, metavar="N")
-    parser.add_argument("--title", default="A table of codes", metavar="TEXT")
-    parser.add_argument("program", metavar="PROGRAM")
-    parser.add_argument("folder", type=Path, metavar="FOLDER")
-    parser.add_argument("entries", nargs="+", metavar="ENTRY")
+    parser.add_argument("--budget", type=int, default=2**20, metavar="N", help="the blocks of a search at most (2^20)")
+    parser.add_argument("--workers", type=int, default=1, metavar="N", help="the threads of a search (1)")
+    parser.add_argument("--words", type=int, default=10**6, metavar="N", help="the words at which check_certificate.py looks at most (a million)")
+    parser.add_argument("--title", default="A table of codes", metavar="TEXT", help="the title of the page")
+    parser.add_argument("program", metavar="PROGRAM", help="the path of codes")
+    parser.add_argument("folder", type=Path, metavar="FOLDER", help="where the page is written")
+    parser.add_argument("entries", nargs="+", metavar="ENTRY", help="NAME.list, a list of codes; NAME.codes, a script; or a matrix")
     return parser.parse_args()
 
 
 def main():
     given = arguments()
-    try:
-        listed = list(entries(given.entries))
-    except (OSError, from_matrix.Refused) as error:
-        sys.exit(f"{type(error).__name__}: {error}")
+    listed = list(entries(given.entries))
     names = [name for name, _, _ in listed]
     twice = sorted({name for name in names if names.count(name) > 1})
     if twice:
