@@ -8,8 +8,10 @@ import pathlib
 import pty
 import random
 import re
+import signal
 import subprocess
 import sys
+import tempfile
 
 TOP = pathlib.Path(__file__).parent.parent
 LINE = re.compile(r"query 1  (level \d+ set \d+ \d+ %|blocks [\d,]+)  bound \d+ best \d+")
@@ -23,10 +25,10 @@ def script():
     return f"MinimumDistance(HammingCode(3,GF(2)));\nMinimumDistance(GeneratorMatCode({rows},GF(2)));\nFoo();\n".encode()
 
 
-def at_terminal(words, source):
-    """The status, standard output, and what a terminal gets of standard error."""
+def at_terminal(words, source, folder=None, interrupt=False):
+    """The status, standard output, and what a terminal gets of standard error; in a folder; ended by Ctrl-C once there is a line."""
     main, side = pty.openpty()
-    with subprocess.Popen(words, stdin=subprocess.PIPE, stdout=subprocess.PIPE, stderr=side) as running:
+    with subprocess.Popen(words, stdin=subprocess.PIPE, stdout=subprocess.PIPE, stderr=side, cwd=folder, start_new_session=True) as running:
         os.close(side)
         running.stdin.write(source)
         running.stdin.close()
@@ -39,6 +41,8 @@ def at_terminal(words, source):
             if not piece:
                 break
             shown += piece
+            if interrupt and b"best" in shown:
+                interrupt = os.killpg(running.pid, signal.SIGINT)
         out = running.stdout.read()
         status = running.wait()
     os.close(main)
@@ -68,6 +72,12 @@ def main():
             check("line: the time that is left fits 80 columns", all(piece.rstrip().endswith(" left") for piece in last if "at mo" in piece))
         else:
             check("no: nothing is shown", shown == "")
+    lone = source.split(b"\n")[1]
+    with tempfile.TemporaryDirectory() as folder:
+        status, out, shown = at_terminal([*tool, "line", program, "run", "keep=yes", "slice=500"], lone, folder)
+        check("a pause leaves the last line", (status, out) == (3, b"") and re.search(r"best \d+[^\r]*\r\ncodes: paused at query 0 blocks 500\r\n$", shown))
+    status, out, shown = at_terminal([*tool, "line", program, "run"], lone, interrupt=True)
+    check("Ctrl-C leaves the last line", (status, out) == (-signal.SIGINT, b"") and re.search(r"best \d+[^\r]*\r\n$", shown))
     status, out, shown = at_terminal([*tool, "line", program, "run"], b" " * 2**22)
     check("a script that is too long has its line and its status", (status, out) == (12, b"") and "too long" in shown)
     status, out, shown = at_terminal([*tool, "line", program, "run", "workers=0"], b"")

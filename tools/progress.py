@@ -4,9 +4,9 @@
     tools/progress.py line|no PROGRAM run|resume KEY=VALUE.. < SCRIPT
 
 The line has the query, the level and the information set of the phase, how many of its blocks are done, the bound, the least weight seen,
-words a second, and how long the search still takes at this rate, if no lighter word is found. Other lines of standard error stay as they
-are. Standard output and the status are those of the program. With `no` there is no such line. `./codes run` calls this where standard
-error is a terminal.
+words a second, and how long the search still takes at this rate, if no lighter word is found. If the session pauses, or a signal ends it,
+the last line stays. Other lines of standard error stay as they are. Standard output and the status are those of the program. With `no`
+there is no such line. `./codes run` calls this where standard error is a terminal.
 """
 import os
 import shutil
@@ -23,6 +23,7 @@ from reference import Fault
 
 PAUSE = 0.1  # seconds between two looks at the clock
 SPAN = 20.0  # seconds over which a rate is taken
+PAUSED = "codes: paused "
 
 
 class Plans(threading.Thread):
@@ -113,7 +114,7 @@ class Terminal:
             return
         text = watch.line(shutil.get_terminal_size((80, 24)).columns - 1)
         with self.lock:
-            if text != self.shown:
+            if self.has_line and text != self.shown:
                 self.write("\r" + text + " " * max(0, len(self.shown) - len(text)))
                 self.shown = text
 
@@ -121,6 +122,15 @@ class Terminal:
         with self.lock:
             if self.shown:
                 self.write("\r" + " " * len(self.shown) + "\r")
+                self.shown = ""
+
+    def leave(self, watch):
+        """Leaves the line as it is now above what comes; it is the last one of the session."""
+        self.show(watch)
+        with self.lock:
+            self.has_line = False
+            if self.shown:
+                self.write("\n")
                 self.shown = ""
 
     def say(self, line):
@@ -145,6 +155,8 @@ def listen(stream, watch, terminal):
             number, *rest = map(int, found.groups())
             watch.hear(number, plan.Record(*rest))
         else:
+            if text.startswith(PAUSED):
+                terminal.leave(watch)
             terminal.say(text)
 
 
@@ -186,8 +198,11 @@ def session(has_line, words, script):
             if output.is_alive():
                 terminal.show(watch)
         threads[1].join()
+        status = running.wait()
+        if status < 0:
+            terminal.leave(watch)
         terminal.clear()
-        return running.wait()
+        return status
 
 
 def main():
