@@ -13,6 +13,9 @@ FIELDS = {
     9: (3, [2, 2]), 11: (11, [0]), 13: (13, [0]), 16: (2, [1, 1, 0, 0]),
 }
 
+# how many bits of a number are ones (Python 3.9 has no call for it)
+bit_count = getattr(int, "bit_count", lambda number: bin(number).count("1"))
+
 
 class Field:
     def __init__(self, q):

@@ -11,7 +11,7 @@ from itertools import combinations, islice, product
 from math import comb
 from operator import xor
 
-from linear_algebra import Field, span
+from linear_algebra import Field, bit_count, span
 from search import BLOCK, CUT, bases_of, negative
 
 
@@ -52,7 +52,7 @@ def binary_errors(rest, systematic, level):
 def weighed(field, n, rest, systematic, level):
     """The errors of a level, how one is weighed, and how its symbols are read."""
     if field.q == 2:
-        return binary_errors(rest, systematic, level), int.bit_count, lambda error: [int(bit) for bit in f"{error:0{n}b}"]
+        return binary_errors(rest, systematic, level), bit_count, lambda error: [int(bit) for bit in f"{error:0{n}b}"]
     return errors_of_level(field, rest, systematic, level), weight, list
 
 

@@ -23,7 +23,7 @@ import field_tables
 import linear_algebra
 import near_search
 import search
-from linear_algebra import Field, span
+from linear_algebra import Field, bit_count, span
 
 linear_algebra.FIELDS = field_tables.FIELDS
 
@@ -1086,7 +1086,7 @@ def counts_of_binary_words(code):
     half, counts = len(code.rows) // 2, [0] * (code.length + 1)
     others = binary_sums(code.rows[half:])
     for first in binary_sums(code.rows[:half]):
-        for weight, count in Counter(map(int.bit_count, map(first.__xor__, others))).items():
+        for weight, count in Counter(map(bit_count, map(first.__xor__, others))).items():
             counts[weight] += count
     return counts
 

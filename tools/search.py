@@ -10,7 +10,7 @@ from itertools import combinations, islice, product
 from math import comb
 from operator import xor
 
-from linear_algebra import Field
+from linear_algebra import Field, bit_count
 
 BLOCK = 4096
 CUT = 2**40
@@ -112,7 +112,7 @@ def bound(divisor, k, sets, levels, weight):
 def weighed(field, n, rows, level):
     """The words of a level, how one of them is weighed, and how its symbols are read."""
     if field.q == 2:
-        return numbers_of_level(n, rows, level), int.bit_count, lambda word: [int(bit) for bit in f"{word:0{n}b}"]
+        return numbers_of_level(n, rows, level), bit_count, lambda word: [int(bit) for bit in f"{word:0{n}b}"]
     return words_of_level(field, n, rows, level), lambda word: sum(1 for a in word if a), list
 
 
