@@ -1,6 +1,7 @@
 //! The workers and the gate of a session: a round whose reports are held at the gate until its other blocks have come there.
 use crate::vaults::{EMPTY, ends, status_of, words_of};
 use lc_io::{Gate, MemorySink, MemorySource, MemoryVault, NoMemory};
+use lc_share::run_part;
 use std::alloc::Global;
 use std::sync::atomic::{AtomicBool, AtomicU64, Ordering};
 use std::test::Fail;
@@ -10,6 +11,10 @@ const SCRIPT: &[u8] = b"MinimumDistance(BCHCode(63,7,GF(2)));";
 
 const TEXT: &[u8] =
     b"distance 7 word [0,0,0,0,0,0,0,0,1,0,0,0,0,0,0,0,0,0,0,0,0,0,0,0,0,0,0,0,0,0,0,0,0,0,0,0,0,0,0,0,0,0,0,0,0,1,1,1,0,0,0,1,1,0,0,0,0,1,0,0,0,0,0] blocks 2331\n";
+
+// What another program says of the blocks 2 to 5 of this search.
+const PART: &[u8] =
+    b"5b1e11c0a7d418eb8606f52abc41dfdf62c81f424f3b74c84d418baaab7a819f {\"count\":4,\"divisor\":1,\"first\":11,\"from\":2,\"k\":45,\"place\":8222,\"q\":2,\"ranks\":[45],\"script\":\"ce2f0aba8993c37a57b962db30b5d15befde834603cde0efad8682181cda2019\",\"version\":1,\"weight\":7}\n";
 
 // What another program says of seed 12. The last of its rounds does three blocks.
 const SUMMARY: &[u8] =
@@ -28,6 +33,15 @@ struct Row {
 const SEARCH: Row = Row {
     script: SCRIPT,
     text: TEXT,
+    first: 2,
+    last: 5,
+    flags: 0b11_1100,
+};
+
+// A part of the search that has these blocks and no other.
+const OF_A_PART: Row = Row {
+    script: SCRIPT,
+    text: PART,
     first: 2,
     last: 5,
     flags: 0b11_1100,
@@ -102,6 +116,24 @@ impl Gate for WaitingGate {
     }
 }
 
+// The number with which a session that passes this gate ends. One of `part` has no vault.
+fn number<R: Threads + Sync>(
+    rt: &R,
+    alloc: Global,
+    words: &[String],
+    source: &mut MemorySource,
+    sink: &mut MemorySink,
+    vault: &mut MemoryVault,
+    gate: &WaitingGate,
+) -> u8 {
+    match words.first() {
+        Some(first) if first.as_str() == "part" => {
+            run_part(rt, alloc, words, source, sink, gate).number()
+        }
+        _ => status_of(rt, alloc, words, source, sink, vault, gate).number(),
+    }
+}
+
 // Whether a session that passes this gate writes the text and ends with 0.
 fn writes_the_text<R: Threads + Sync>(
     rt: &R,
@@ -112,11 +144,8 @@ fn writes_the_text<R: Threads + Sync>(
     gate: &WaitingGate,
     text: &[u8],
 ) -> Result<bool, NoMemory> {
-    let mut sink = MemorySink::new(alloc, 256, 64, &[])?;
-    Ok(
-        status_of(rt, alloc, words, source, &mut sink, vault, gate).number() == 0
-            && sink.bytes() == text,
-    )
+    let mut sink = MemorySink::new(alloc, 512, 64, &[])?;
+    Ok(number(rt, alloc, words, source, &mut sink, vault, gate) == 0 && sink.bytes() == text)
 }
 
 // Whether it does so on the script of the row.
@@ -212,6 +241,21 @@ fn two_workers_come_to_the_gate_of_a_session(rt: HostRuntime) -> Result<(), Fail
     let mut vault = MemoryVault::new(rt.alloc(), 0, &[])?;
     assert!(rt;
         sessions_are_passed_by_two(&rt, rt.alloc(), &["run", "workers=2"], &mut vault, &SEARCH)?
+    );
+    Ok(())
+}
+
+#[test]
+fn two_workers_come_to_the_gate_of_a_part(rt: HostRuntime) -> Result<(), Fail> {
+    let mut vault = MemoryVault::new(rt.alloc(), 0, &[])?;
+    assert!(rt;
+        sessions_are_passed_by_two(
+            &rt,
+            rt.alloc(),
+            &["part", "from=2", "count=4", "workers=2"],
+            &mut vault,
+            &OF_A_PART
+        )?
     );
     Ok(())
 }

@@ -20,9 +20,10 @@ use Rattle.lc_parts.specs.Along.{set_number, first_by, end_by, is_answered, end_
 use Rattle.lc_parts.proofs.AlongLaws.{answered_settled}
 use Rattle.lc_join.specs.Lines.{Numbered, parts_in, HaveSameParts}
 use Rattle.lc_part_laws.specs.Point.{joined_point}
-use Rattle.lc_join.specs.Joining.{IsJoined, IsMissing, Joins, HasText, Lacks}
+use Rattle.lc_join.specs.Joining.{times, IsJoined, IsMissing, Joins, HasText, Lacks}
 use Rattle.lc_join.specs.Truth.{IsTrueLine}
 use Rattle.lc_join.proofs.TruthLaws.{true_parts, underway}
+use Rattle.lc_join.proofs.WalkLaws.{drawn}
 
 -- ---- the parts that go on
 
@@ -110,7 +111,7 @@ module _ (C : Matrix) (budget : ℕ) (rows : 0 < length C.rows) (small : budget 
       ⊎_elim
       (λ done. omega (arith, (going others t k).few, settled_blocks C budget s (answered_settled C budget s rows (going parts s h) done)))
       (λ ends. subst (λ (r : Progress). r.blocks ≤ s.blocks) k.joined.reached
-      (along_no_farther (facts_of C) budget parts s (first_by (facts_of C)) k.joined.taken ends (λ i d l. among _ (k.joined.drawn i d l)) (first_least (facts_of C) s)))
+      (along_no_farther (facts_of C) budget parts s (first_by (facts_of C)) (times k.joined.passes others) ends (λ i d l. among _ (drawn k.joined.passes others i d l)) (first_least (facts_of C) s)))
       h.joined.ended
 
   told_by_blocks : (parts others : List Part) (s t : Progress) → AreJoined C budget parts s → AreJoined C budget others t → s.blocks ≡ t.blocks → s ≡ t
@@ -125,7 +126,7 @@ module _ (C : Matrix) (budget : ℕ) (rows : 0 < length C.rows) (small : budget 
       let more = no_farther parts others s t h k from in
       told_by_blocks parts others s t h k (omega (arith, less, more))
 
-missing_least : (f : Facts) (budget : ℕ) (parts others : List Part) (s : Progress) (b d : ℕ) → IsMissing f budget parts s b → IsMissing f budget others s d → ((p : Part) → Contains parts p → Contains others p) → d ≤ b
+pub missing_least : (f : Facts) (budget : ℕ) (parts others : List Part) (s : Progress) (b d : ℕ) → IsMissing f budget parts s b → IsMissing f budget others s d → ((p : Part) → Contains parts p → Contains others p) → d ≤ b
 missing_least f budget parts others s b d h k to =
     ⊎_elim
     (λ e. omega (arith, e, k.inside))

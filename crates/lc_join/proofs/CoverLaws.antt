@@ -6,8 +6,8 @@
 --   none_missing             lines that are enough lack no block
 --   same_word                true parts of one range have one word
 --   none_disagree            true lines don't disagree
---   along_more, with_blocks, on_within, some_on      one more part, and whether one goes on
---   ends_or_on, joined_from  parts are taken from the beginning, as long as one goes on
+--   on_within, some_on       whether a part goes on
+--   joined_from              passes are made from the beginning, as long as one brings the search on
 --   some_text                lines that are enough make a text
 --   session_ends             how a session over lines that are enough may end
 use Rattle.std.proofs.Common.{◌≡◌, ℕ, zero, suc, ◌+◌, ◌^◌, ◌<◌, ◌≤◌, ◌==◌, ◌&&◌, ◌⊎◌, inl, inr, nat_le, nat_lt, not, Bool, true, false, find, List, [], ◌∷◌, ◌++◌, length, All, Contains, Option, is_some, refl, sym, ap, ap₂, subst, ◌∙◌, ⊎_elim, arith}
@@ -32,11 +32,12 @@ use Rattle.lc_parts.proofs.FactsLaws.{end_is, finished_is}
 use Rattle.lc_share.specs.PartSession.{Ends, HasRead}
 use Rattle.lc_join.specs.Asked.{JoinOptions, asked, join_options}
 use Rattle.lc_join.specs.Lines.{Numbered, Agree, Disagree, lines_in, parts_in}
-use Rattle.lc_join.specs.Joining.{IsJoined, Joins, HasText, Lacks}
+use Rattle.lc_join.specs.Joining.{times, IsJoined, Joins, HasText, Lacks}
 use Rattle.lc_join.specs.JoinSession.{JoinEnding, printed, refused, source_fault, sink_fault, no_memory, too_long, missing, no_part, disagree, EndsSo, Does, IsJoinSession}
 use Rattle.lc_join.specs.Cover.{CoverBelow, AreEnough, WroteOrFailed}
 use Rattle.lc_join.specs.Truth.{IsTrueLine}
 use Rattle.lc_join.proofs.TruthLaws.{true_parts, underway}
+use Rattle.lc_join.proofs.WalkLaws.{along_append, along_grows, along_rests}
 
 -- ---- the next block
 
@@ -126,15 +127,6 @@ none_disagree digest C lines all i j h =
 
 -- ---- the text
 
-along_more : (f : Facts) (budget : ℕ) (s : Progress) (taken : List Part) (p : Part) → along f budget s (taken ++ p ∷ []) ≡ with_part f budget (along f budget s taken) p
-unfolding along
-along_more f budget s [] p = refl
-along_more f budget s (q ∷ taken) p = along_more f budget (with_part f budget s q) taken p
-
-with_blocks : (f : Facts) (budget : ℕ) (s : Progress) (p : Part) → is_answered f budget s ≡ false → continues f budget s p ≡ true → (with_part f budget s p).blocks ≡ part_end p
-unfolding with_part after_part progress_of
-with_blocks f budget s p a c = rw (a, c) refl
-
 -- a part that goes on ends after the state, within the budget
 on_within : (f : Facts) (budget : ℕ) (s : Progress) (p : Part) → continues f budget s p ≡ true → (s.blocks < part_end p) × (part_end p ≤ budget)
 unfolding continues end_wanted
@@ -155,37 +147,33 @@ some_on f budget s (p ∷ parts) =
     (cases_Bool (continues f budget s p))
 
 module _ (f : Facts) (budget : ℕ) (parts : List Part) where
-  -- what some parts bring the search to
-  abbrev reached_by : List Part → Progress
-  reached_by taken = along f budget (first_by f) taken
+  -- what some passes bring the search to
+  abbrev reached_in : ℕ → Progress
+  reached_in n = along f budget (first_by f) (times n parts)
 
-  ends_or_on : (taken : List Part) → All (Contains parts) taken
-      → ((p : Part) → Contains parts p → is_answered f budget (reached_by taken) ≡ false → continues f budget (reached_by taken) p ≡ true → (s : Progress) × IsJoined f budget parts s) → (s : Progress) × IsJoined f budget parts s
-  ends_or_on taken drawn next =
+  ended_at : (n : ℕ) → (is_answered f budget (reached_in n) ≡ true) ⊎ All (λ p. continues f budget (reached_in n) p ≡ false) parts → (s : Progress) × IsJoined f budget parts s
+  ended_at n e = (reached_in n, record { passes = n; reached = refl; ended = e })
+
+  joined_from : (few n : ℕ) → budget ≤ (reached_in n).blocks + few → (s : Progress) × IsJoined f budget parts s
+  joined_from zero n whole =
       ⊎_elim
-      (λ a. ended_here (inl a))
-      (λ a. ⊎_elim
-      (λ none. ended_here (inr none))
-      (λ (x : (p : Part) × Contains parts p × (continues f budget (reached_by taken) p ≡ true)). next x.0 x.1 a x.2)
-      (some_on f budget (reached_by taken) parts))
-      (cases_Bool (is_answered f budget (reached_by taken)))
-    where
-      ended_here : (is_answered f budget (reached_by taken) ≡ true) ⊎ All (λ p. continues f budget (reached_by taken) p ≡ false) parts → (s : Progress) × IsJoined f budget parts s
-      ended_here e = (reached_by taken, record { taken = taken; drawn = drawn; reached = refl; ended = e })
-
-  joined_from : (n : ℕ) (taken : List Part) → All (Contains parts) taken → budget ≤ (reached_by taken).blocks + n → (s : Progress) × IsJoined f budget parts s
-  joined_from zero taken drawn few = ends_or_on taken drawn (λ p c a on. let w = on_within f budget (reached_by taken) p on in absurd (omega (arith, few, w.0, w.1)))
-  joined_from (suc n) taken drawn few = ends_or_on taken drawn (λ p c a on.
-      let w = on_within f budget (reached_by taken) p on in
-      joined_from n (taken ++ p ∷ []) (All-append (Contains parts) taken (p ∷ []) drawn (All-cons (Contains parts) p [] c (All-nil (Contains parts))))
-      (omega (arith, few, w.0, ap (λ (s : Progress). s.blocks) (along_more f budget (first_by f) taken p), with_blocks f budget (reached_by taken) p a on)))
+      (λ none. ended_at n (inr none))
+      (λ (x : (p : Part) × Contains parts p × (continues f budget (reached_in n) p ≡ true)). let w = on_within f budget (reached_in n) x.0 x.2 in absurd (omega (arith, whole, w.0, w.1)))
+      (some_on f budget (reached_in n) parts)
+  joined_from (suc few) n whole =
+      let s = reached_in n in
+      let more : reached_in (suc n) ≡ along f budget s parts = along_append f budget (first_by f) (times n parts) parts in
+      ⊎_elim
+      (λ (l : s.blocks < (along f budget s parts).blocks). joined_from few (suc n) (omega (arith, whole, l, ap (λ (x : Progress). x.blocks) more)))
+      (λ (still : (along f budget s parts).blocks ≤ s.blocks). ended_at n (along_rests f budget s parts (omega (arith, still, along_grows f budget s parts))).done)
+      (cases_lt s.blocks (along f budget s parts).blocks)
 
 pub some_text : (digest : List ℕ) (C : Matrix) (budget : ℕ) (lines : List Numbered) → 0 < length C.rows → budget ≤ 2 ^ 40 → AreEnough digest C budget lines → (text : List ℕ) × HasText budget lines text
 some_text digest C budget [] rows small enough = absurd (omega (arith, enough.some))
 some_text digest C budget (x ∷ xs) rows small enough =
     let lines = x ∷ xs in
     let first : IsTrueLine digest C x = enough.holds 0 x (omega arith) in
-    let r = joined_from (facts_of C) budget (parts_in lines) budget [] (λ k d l. absurd (omega (arith, l))) (omega arith) in
+    let r = joined_from (facts_of C) budget (parts_in lines) budget zero (omega arith) in
     let j : Joins budget lines = record {
       first = x;
       others = xs;

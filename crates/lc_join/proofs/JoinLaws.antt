@@ -35,7 +35,8 @@ use Rattle.lc_join.specs.Seen.{numbered_of, IsOf}
 use Rattle.lc_join.specs.declared.lines.Numbered.{Numbered as Seen}
 use Rattle.lc_join.specs.Lines.{Numbered, Agree, numbered, lines_after, lines_in, parts_in}
 use Rattle.lc_part_laws.specs.Point.{joined_point}
-use Rattle.lc_join.specs.Joining.{IsJoined, IsMissing, Joins, HasText, Lacks}
+use Rattle.lc_join.specs.Joining.{times, IsJoined, IsMissing, Joins, HasText, Lacks}
+use Rattle.lc_join.proofs.WalkLaws.{drawn}
 
 -- ---- facts
 
@@ -151,7 +152,7 @@ parts_are (x ∷ xs) all = λ k d l.
 
 pub joined_ranged : (f : Facts) (budget : ℕ) (lines : List Numbered) (s : Progress) → AreFacts f → All (λ l. IsInRange l.line) lines → s.blocks ≤ budget → IsJoined f budget (parts_in lines) s → IsProgress budget s
 joined_ranged f budget lines s h all few j =
-    let light = subst IsLight j.reached (along_light f budget (first_by f) j.taken (first_light f h) (drawn_parts (parts_in lines) j.taken (parts_are lines all) j.drawn)) in
+    let light = subst IsLight j.reached (along_light f budget (first_by f) (times j.passes (parts_in lines)) (first_light f h) (drawn_parts (parts_in lines) (times j.passes (parts_in lines)) (parts_are lines all) (drawn j.passes (parts_in lines)))) in
     record { done = few; nonzero = light.nonzero; light = light.light; near = light.near }
 
 -- ---- the checkpoint

@@ -6,6 +6,7 @@ mod JoinLaws
 mod LineLaws
 mod MembersLaws
 mod NewlineLaws
+mod OnceLaws
 mod OptionLaws
 mod PrintedLaws
 mod SessionLaws

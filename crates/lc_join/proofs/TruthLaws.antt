@@ -17,8 +17,9 @@ use Rattle.lc_parts.proofs.AlongLaws.{from_first, answered_settled}
 use Rattle.lc_part_laws.specs.Point.{joined_point}
 use Rattle.lc_part_laws.proofs.PointLaws.{state_true}
 use Rattle.lc_join.specs.Lines.{Numbered, parts_in}
-use Rattle.lc_join.specs.Joining.{IsJoined, HasText}
+use Rattle.lc_join.specs.Joining.{times, IsJoined, HasText}
 use Rattle.lc_join.specs.Truth.{IsTrueLine, IsTrueText}
+use Rattle.lc_join.proofs.WalkLaws.{drawn}
 
 pub true_parts : (digest : List ℕ) (C : Matrix) (lines : List Numbered) → All (IsTrueLine digest C) lines → All (IsTruePart C) (parts_in lines)
 true_parts digest C [] all = λ k d l. absurd (omega (arith, l))
@@ -30,7 +31,7 @@ drawn_true : (C : Matrix) (ps taken : List Part) → All (IsTruePart C) ps → A
 drawn_true C ps taken all drawn = λ k d l. let c = drawn k d l in subst (IsTruePart C) c.2 (all c.0 (get_or taken k d) c.1)
 
 pub underway : (C : Matrix) (budget : ℕ) (ps : List Part) (s : Progress) → 0 < length C.rows → budget ≤ 2 ^ 40 → All (IsTruePart C) ps → IsJoined (facts_of C) budget ps s → IsUnderway (divisor_of C) C budget s
-underway C budget ps s rows small all j = subst (IsUnderway (divisor_of C) C budget) j.reached (from_first C budget j.taken rows small (drawn_true C ps j.taken all j.drawn))
+underway C budget ps s rows small all j = subst (IsUnderway (divisor_of C) C budget) j.reached (from_first C budget (times j.passes ps) rows small (drawn_true C ps (times j.passes ps) all (drawn j.passes ps)))
 
 pub true_text : (table : List Call) (bytes : List ℕ) (C : Matrix) (needs : List Matrix) (budget : ℕ) (lines : List Numbered) (text : List ℕ) → MeetsFirst table bytes (C ∷ needs) → 0 < length C.rows → budget ≤ 2 ^ 40
     → All (IsTrueLine (sha256 bytes) C) lines → HasText budget lines text → IsTrueText table bytes C budget text

@@ -1,6 +1,7 @@
 -- Parts that are taken until none goes on.
 --   pass_more, pass_end      the search after the lines so far, and after all
 --   Walked, walked_first, walked_more    what is kept from pass to pass
+--   drawn                        what is taken in some passes is among the parts
 --   walked_end                   where a pass changes nothing
 --   pass_grows                   no pass goes back
 --   Sought, sought_first, sought_more, sought_other, sought_end      the next begin among the parts seen so far
@@ -16,7 +17,7 @@ use Rattle.lc_parts.proofs.JoinLaws.{lines_along, lines_keep}
 use Rattle.lc_parts.specs.Seen.{part_of}
 use Rattle.lc_part_lines.specs.Seen.{line_of}
 use Rattle.lc_join.specs.Lines.{parts_in}
-use Rattle.lc_join.specs.Joining.{IsJoined, IsMissing}
+use Rattle.lc_join.specs.Joining.{times, IsJoined, IsMissing}
 use Rattle.lc_join.specs.Seen.{numbered_of}
 use Rattle.lc_join.specs.declared.lines.Numbered.{Numbered}
 
@@ -51,7 +52,7 @@ pass_end whole s xs i l so_far = sym (pass_nil s) ∙ sym (at_drop_all (λ ys. w
 
 -- ---- passes
 
-with_is : (f : Facts) (b : ℕ) (s : Progress) (p : Part) → with_part f b s p ≡ (if is_answered f b s then s else (if continues f b s p then after_part s p else s))
+pub with_is : (f : Facts) (b : ℕ) (s : Progress) (p : Part) → with_part f b s p ≡ (if is_answered f b s then s else (if continues f b s p then after_part s p else s))
 unfolding with_part
 with_is f b s p = refl
 
@@ -81,11 +82,11 @@ step f b s p =
     (cases_Bool (continues f b s p)))
     (cases_Bool (is_answered f b s))
 
-along_cons : (f : Facts) (b : ℕ) (s : Progress) (p : Part) (ps : List Part) → along f b s (p ∷ ps) ≡ along f b (with_part f b s p) ps
+pub along_cons : (f : Facts) (b : ℕ) (s : Progress) (p : Part) (ps : List Part) → along f b s (p ∷ ps) ≡ along f b (with_part f b s p) ps
 unfolding along
 along_cons f b s p ps = refl
 
-along_nil : (f : Facts) (b : ℕ) (s : Progress) → along f b s [] ≡ s
+pub along_nil : (f : Facts) (b : ℕ) (s : Progress) → along f b s [] ≡ s
 unfolding along
 along_nil f b s = refl
 
@@ -124,17 +125,15 @@ along_rests f b s (p ∷ ps) e =
     (step f b s p)
 
 pub record Walked (first s : JoinState) (ps : List Part) : Type 0 where
-  pub taken : List Part
-  pub drawn : All (Contains ps) taken
-  pub reached : along first.facts first.budget (first_by first.facts) taken ≡ s.progress
+  pub passes : ℕ
+  pub reached : along first.facts first.budget (first_by first.facts) (times passes ps) ≡ s.progress
   pub facts : s.facts ≡ first.facts
   pub budget : s.budget ≡ first.budget
   pub script : s.script ≡ first.script
 
 pub walked_first : (first : JoinState) (ps : List Part) → first.progress ≡ first_by first.facts → Walked first first ps
 walked_first first ps e = record {
-  taken = [];
-  drawn = λ k d l. absurd (omega (arith, l));
+  passes = zero;
   reached = along_nil first.facts first.budget (first_by first.facts) ∙ sym e;
   facts = refl;
   budget = refl;
@@ -144,13 +143,16 @@ walked_first first ps e = record {
 themselves : (ps : List Part) → All (Contains ps) ps
 themselves ps k d l = (k, l, get_or_default ps k (get_or ps k d) d l)
 
+pub drawn : (n : ℕ) (ps : List Part) → All (Contains ps) (times n ps)
+drawn zero ps = λ k d l. absurd (omega (arith, l))
+drawn (suc n) ps = All-append (Contains ps) (times n ps) ps (drawn n ps) (themselves ps)
+
 pub walked_more : (first s t : JoinState) (ps : List Part) → t ≡ with_lines s ps → Walked first s ps → Walked first t ps
 walked_more first s t ps made h =
     let kept = lines_keep s ps in
     record {
-      taken = h.taken ++ ps;
-      drawn = All-append (Contains ps) h.taken ps h.drawn (themselves ps);
-      reached = along_append first.facts first.budget (first_by first.facts) h.taken ps
+      passes = suc h.passes;
+      reached = along_append first.facts first.budget (first_by first.facts) (times h.passes ps) ps
           ∙ ap (λ x. along first.facts first.budget x ps) h.reached
           ∙ ap₂ (λ f b. along f b s.progress ps) (sym h.facts) (sym h.budget)
           ∙ sym (lines_along s ps) ∙ ap (λ (x : JoinState). x.progress) (sym made);
@@ -168,7 +170,7 @@ walked_end first s t ps made still h =
     let r = along_rests s.facts s.budget s.progress ps (sym (ap (λ (x : Progress). x.blocks) went) ∙ still) in
     let same : t.progress ≡ s.progress = went ∙ r.same in
     let done : (is_answered first.facts first.budget t.progress ≡ true) ⊎ All (λ p. continues first.facts first.budget t.progress p ≡ false) ps = rw (sym h.facts, sym h.budget, same) r.done in
-    record { taken = h.taken; drawn = h.drawn; reached = h.reached ∙ sym same; ended = done }
+    record { passes = h.passes; reached = h.reached ∙ sym same; ended = done }
 
 -- ---- what is missing
 

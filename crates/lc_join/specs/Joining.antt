@@ -1,12 +1,13 @@
 -- What lines of parts make.
---   IsJoined f budget parts s    where some list drawn from the parts brings a search of these facts from its beginning, by `along`;
---                                and there the search is answered, or none of the parts goes on
+--   times n parts                the parts in their order, so many times over
+--   IsJoined f budget parts s    where the parts, taken in their order as often as it needs, bring a search of these facts from its
+--                                beginning, by `along`: there the search is answered, or none of the parts goes on
 --   IsMissing f budget parts s b     b is the last block that is missing from a state on: the one before the next part begins, the phase
 --                                ends or the budget is reached, whatever comes first
 --   Joins budget lines           lines that agree, and what they bring the search of the first one to
 --   HasText budget lines text    there it is answered, and this is the text of its checkpoint
 --   Lacks budget lines a b       there it isn't answered, and the blocks a to b are missing
-use Rattle.std.specs.Prelude.{◌≡◌, ℕ, ◌+◌, ◌<◌, ◌⊎◌, true, false, List, ◌∷◌, All, Contains}
+use Rattle.std.specs.Prelude.{◌≡◌, ℕ, ◌+◌, ◌<◌, ◌⊎◌, zero, suc, true, false, List, [], ◌∷◌, ◌++◌, All, Contains}
 use Rattle.std.specs.List.{AllPairs}
 use Rattle.lc_enumeration.specs.Records.{Progress}
 use Rattle.lc_formats.specs.Checkpoint.{checkpoint_text}
@@ -15,10 +16,13 @@ use Rattle.lc_parts.specs.Along.{first_by, is_answered, end_wanted, continues, a
 use Rattle.lc_part_laws.specs.Point.{joined_point}
 use Rattle.lc_join.specs.Lines.{Numbered, Agree, parts_in}
 
+abbrev pub times : ℕ → List Part → List Part
+times zero parts = []
+times (suc n) parts = times n parts ++ parts
+
 pub record IsJoined (f : Facts) (budget : ℕ) (parts : List Part) (s : Progress) : Type 0 where
-  pub taken : List Part
-  pub drawn : All (Contains parts) taken
-  pub reached : along f budget (first_by f) taken ≡ s
+  pub passes : ℕ
+  pub reached : along f budget (first_by f) (times passes parts) ≡ s
   pub ended : (is_answered f budget s ≡ true) ⊎ All (λ p. continues f budget s p ≡ false) parts
 
 pub record IsMissing (f : Facts) (budget : ℕ) (parts : List Part) (s : Progress) (b : ℕ) : Type 0 where

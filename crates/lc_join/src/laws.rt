@@ -76,6 +76,17 @@ pub fn joins_agree()
         HaveSameParts (lines_in (concat texts)) (lines_in (concat others)) }
 {}
 
+/// What lines make is determined by the lines and the budget, whether the lines are true or not: they make at most one text, or lack
+/// the blocks of one range, and not both.
+pub fn joins_are_determined()
+    ensures text { (budget : ℕ) (lines : List Numbered) (text other : List ℕ) → HasText budget lines text →
+        HasText budget lines other → text ≡ other }
+    ensures missing { (budget : ℕ) (lines : List Numbered) (a b c d : ℕ) → Lacks budget lines a b →
+        Lacks budget lines c d → (a ≡ c) × (b ≡ d) }
+    ensures alike { (budget : ℕ) (lines : List Numbered) (text : List ℕ) (a b : ℕ) → HasText budget lines text →
+        Lacks budget lines a b → ⊥ }
+{}
+
 /// True lines that have all blocks that a search needs are joined. The lines are true ones of the search of C, at least one, and each
 /// block that the search needs for its answer is in a part that ends no later than the block's phase and the budget; other parts do
 /// no harm, nor does any order or repetition. The budget is at most 2^40 blocks. Then the lines make the text of a checkpoint, they
