@@ -299,6 +299,8 @@ def compared(program, needs, part):
 
 
 def main():
+    if len(sys.argv) < 3 or sys.argv[1] in ("-h", "--help"):
+        sys.exit(__doc__.strip())
     program, count = os.path.abspath(sys.argv[1]), int(sys.argv[2])
     rng = random.Random(int(sys.argv[3]) if len(sys.argv) > 3 else 1)
     codes = [bch_code(15, 5, FieldValue(2)), binary_golay_code(), extended_code(binary_golay_code()), hamming_code(3, FieldValue(3))]

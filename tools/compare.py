@@ -24,6 +24,8 @@ def run(program, script):
 
 
 def main():
+    if len(sys.argv) < 4 or sys.argv[1] in ("-h", "--help"):
+        sys.exit(__doc__.strip())
     program, kind, count = sys.argv[1], sys.argv[2], int(sys.argv[3])
     passed = int(sys.argv[4]) if len(sys.argv) > 4 else 0
     made = list(islice(scripts(kind, passed + count), passed, None))

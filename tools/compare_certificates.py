@@ -217,6 +217,8 @@ def compare_trees(program, count):
 
 
 def main():
+    if len(sys.argv) < 3 or sys.argv[1] in ("-h", "--help"):
+        sys.exit(__doc__.strip())
     if sys.argv[1] == "--stored":
         compare_stored(Path(sys.argv[2]))
     program = sys.argv[1]

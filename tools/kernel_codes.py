@@ -72,6 +72,8 @@ def compared(program, script, budget):
 
 
 def main():
+    if len(sys.argv) < 2 or sys.argv[1] in ("-h", "--help"):
+        sys.exit(__doc__.strip())
     program, made = sys.argv[1], list(searches()) + list(more(int(sys.argv[2]) if len(sys.argv) > 2 else 0))
     with ProcessPoolExecutor(LANES) as lanes:
         differ = [said for said in lanes.map(partial(compared, program), *zip(*made), chunksize=8) if said]

@@ -489,6 +489,8 @@ def scripts(kind, count):
 
 
 def main():
+    if len(sys.argv) < 3 or sys.argv[1] in ("-h", "--help"):
+        sys.exit(__doc__.strip())
     kind, count = sys.argv[1], int(sys.argv[2])
     for script in scripts(kind, count):
         print(script)

@@ -49,6 +49,8 @@ def write_block(to, row, kind, after, lines):
 
 
 def main():
+    if len(sys.argv) < 3 or sys.argv[1] in ("-h", "--help"):
+        sys.exit(__doc__.strip())
     folder, to = Path(sys.argv[1]), Path(sys.argv[2])
     to.mkdir(parents=True, exist_ok=True)
     for file in sorted(folder.iterdir()):
