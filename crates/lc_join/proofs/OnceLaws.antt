@@ -32,7 +32,7 @@ rests f b s (p ∷ ps) (inl t) = along_cons f b s p ps ∙ ap (λ x. along f b x
 rests f b s (p ∷ ps) (inr none) = along_cons f b s p ps ∙ ap (λ x. along f b x ps) (stays f b s p (inr (none 0 p (omega arith)))) ∙ rests f b s ps (inr (λ k d l. none (suc k) d (omega (arith, l))))
 
 later : (f : Facts) (b : ℕ) (s : Progress) (ps : List Part) (m n : ℕ) → m ≤ n → along f b (first_by f) (times m ps) ≡ s → along f b s ps ≡ s → along f b (first_by f) (times n ps) ≡ s
-later f b s ps m zero le e same = subst (λ i. along f b (first_by f) (times i ps) ≡ s) (omega (arith, le)) e
+later f b s ps m zero le e same = let here : m ≡ zero = omega (arith, le) in subst (λ i. along f b (first_by f) (times i ps) ≡ s) here e
 later f b s ps m (suc n) le e same =
     ⊎_elim
     (λ (l : n < m). let here : m ≡ suc n = omega (arith, l, le) in subst (λ i. along f b (first_by f) (times i ps) ≡ s) here e)
