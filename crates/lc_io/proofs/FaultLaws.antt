@@ -4,7 +4,7 @@
 --   unkept        or one that was written and could not be kept
 --   undiminished  a file that was made, written and kept leaves no fewer faults
 --   unmoved       a file was made, and could not be renamed: a fault was counted
-use Rattle.std.proofs.Common.{◌≡◌, refl, true, true≢false, ◌⊎◌, ◌∙◌, ◌<◌, ◌≤◌, ◌+◌, ◌-◌, ◌^◌, sym, ap, subst, inl, inr, ⊎_elim, arith}
+use Rattle.std.proofs.Common.{◌≡◌, refl, true, true≢false, ◌⊎◌, ◌∙◌, ◌<◌, ◌≤◌, ◌-◌, ◌^◌, sym, subst, inl, inr, arith}
 use Rattle.std.specs.Prelude.{ℕ, List, Option, Some, None, IsSome, is_some, Result, Ok, Err, OnOk, MatchResult}
 use Rattle.lc_io.specs.Outside.{HasRisen}
 use Rattle.lc_io.specs.Vaults.{WhereTold}

@@ -3,10 +3,10 @@
 --   torn_file        one that isn't kept in the end leaves each other file as it was
 --   unwritten_file   so does one that couldn't be written
 --   left_whole       a file that wasn't made leaves that of the slot as it was
---   moved_whole      a file that was made leaves it with the new bytes, or as it was
+--   replaced_whole   one that was made and moved has the new bytes, and nothing has the name that it was made with
+--   moved_whole      a file that was made leaves that of the slot with the new bytes, or as it was
 --   whole_slots      so does a store leave the slots
 --   torn_slots       and no other slot than its own is touched
---   whole_others, torn_others     and no other file
 use Rattle.std.proofs.Common.{◌≡◌, ◌≢◌, refl, sym, ap, subst, ◌∙◌, ◌+◌, inl, inr, ⊎_elim, arith}
 use Rattle.std.proofs.lemmas.List.{length-append}
 use Rattle.std.specs.Prelude.{ℕ, List, [], length, codes, Option, Some, None}
@@ -14,7 +14,7 @@ use Rattle.lc_io.specs.declared.vault.Slot.{Slot}
 use Rattle.lc_io.specs.declared.vault.Slot.TheVariants.{Zero, One}
 use Rattle.lc_io.specs.Vaults.{Slots, in_slot, put, WhereTold, IsTorn}
 use Rattle.lc_io.proofs.SlotLaws.{WhereTold-map, WhereTold-then}
-use Rattle.lc_io.specs.Folders.{Contents, Written, held, bytes_of, IsNew, IsWrittenOn, IsKept, TouchesOnly, IsMade, IsTouched, IsMovedOrNot, LeavesOthers, Replaces, IsReplacedOrNot, IsPutOrNot, AreApart, next_of, name_among, slots_in}
+use Rattle.lc_io.specs.Folders.{Contents, Written, held, bytes_of, IsNew, IsWrittenOn, IsKept, TouchesOnly, IsMade, IsTouched, IsMoved, IsMovedOrNot, Replaces, IsReplacedOrNot, IsPutOrNot, AreApart, next_of, name_among, slots_in}
 
 -- the last of the steps, of which the file has what was written
 abbrev Ends : List ℕ → List ℕ → (Option Written → Contents → Contents → Type 0) → Contents → Contents → Type 0
@@ -92,6 +92,18 @@ pub moved_whole : (name bytes : List ℕ) (old made new : Option Contents) → W
 moved_whole name bytes old made new is moved =
     WhereTold-then old made new (IsMade (next_of name) bytes) (IsMovedOrNot (next_of name) name) (IsReplacedOrNot name bytes) (moved_or_not name bytes) is moved
 
+moved_made : (name bytes : List ℕ) (a b c : Contents) → IsMade (next_of name) bytes a b → IsMoved (next_of name) name b c → Replaces name bytes a c
+moved_made name bytes a b c made moved = record {
+  replaced = moved.moved ∙ made.made;
+  gone = moved.gone (λ e. next_differs name (sym e));
+  others = λ other not_next not. moved.others other not_next not ∙ made.others other not_next;
+}
+
+pub replaced_whole : (name bytes : List ℕ) (old made new : Option Contents) → WhereTold old made (IsMade (next_of name) bytes) → WhereTold made new (IsMoved (next_of name) name)
+    → WhereTold old new (Replaces name bytes)
+replaced_whole name bytes old made new is moved =
+    WhereTold-then old made new (IsMade (next_of name) bytes) (IsMoved (next_of name) name) (Replaces name bytes) (moved_made name bytes) is moved
+
 abbrev both : List ℕ → List ℕ → Slots
 both zero one = record { zero_slot = zero; one_slot = one }
 
@@ -127,10 +139,4 @@ torn_slots slot zero one bytes old new apart is =
     (λ a b h. ⊎_elim (λ put. (bytes, put)) (λ same. (in_slot slot a, same ∙ put_again slot a)) h)
     (whole_slots slot zero one bytes old new apart is)
 
-pub whole_others : (name bytes : List ℕ) (old new : Option Contents) → WhereTold old new (Replaces name bytes) → WhereTold old new (LeavesOthers name)
-whole_others name bytes old new is = WhereTold-map old new (Replaces name bytes) (LeavesOthers name) (λ a b h. h.others) is
-
-pub torn_others : (name bytes : List ℕ) (old new : Option Contents) → WhereTold old new (IsReplacedOrNot name bytes) → WhereTold old new (LeavesOthers name)
-torn_others name bytes old new is = WhereTold-map old new (IsReplacedOrNot name bytes) (LeavesOthers name) (λ a b h. h.others) is
-
-pub ruleset store_laws = (whole_slots, torn_slots, whole_others, torn_others)
+pub ruleset replace_laws = (left_whole, moved_whole, replaced_whole)

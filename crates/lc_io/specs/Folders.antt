@@ -24,7 +24,8 @@
 --   IsMovedOrNot from to old new   the same, or all is as it was
 --   next_of name                   the name of the file that a store of a slot writes first
 --   LeavesOthers name old new      what has neither this name nor that of the file that a store writes first is as it was
---   Replaces name bytes old new    the file with this name has these bytes; the others as before
+--   Replaces name bytes old new    the file with this name has these bytes, and nothing has the name of the one that a store writes
+--                                  first; the others as before
 --   IsReplacedOrNot name bytes old new     the file with this name has these bytes, or what it had; the others as before
 --   AreApart zero one              the names of two slots: neither is the other, nor what a store of the other writes first
 --   FolderSlots R                  a vault of two files: its folder, the names of its slots, and how often it has failed
@@ -132,6 +133,7 @@ LeavesOthers name old new = (other : List ℕ) → other ≢ next_of name → ot
 
 pub record Replaces (name bytes : List ℕ) (old new : Contents) : Type 0 where
   pub replaced : new name ≡ Some bytes
+  pub gone : new (next_of name) ≡ None
   pub others : LeavesOthers name old new
 
 pub record IsReplacedOrNot (name bytes : List ℕ) (old new : Contents) : Type 0 where

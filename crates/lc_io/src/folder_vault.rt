@@ -3,7 +3,7 @@ ghost use Rattle.std.specs.Prelude.{◌≡◌, ◌<◌, ◌≤◌, length, take,
 ghost use Rattle.std.specs.Io.KnownBytes.{Consumes, IsAtEnd};
 ghost use Rattle.lc_io.specs.Outside.{HasRisen};
 ghost use Rattle.lc_io.specs.Vaults.{WhereTold, IsPut, IsTorn, Loads};
-ghost use Rattle.lc_io.specs.Folders.{AreApart, HasFailed, IsMade, IsPutOrNot, IsReplacedOrNot, IsTouched, Known, LeavesOthers, LoadsFile, NotFewer, Replaces, next_of, name_among, slots_in};
+ghost use Rattle.lc_io.specs.Folders.{AreApart, HasFailed, IsMade, IsPutOrNot, IsReplacedOrNot, IsTouched, Known, LoadsFile, NotFewer, Replaces, next_of, name_among, slots_in};
 
 use crate::{Failed, Folder, NoMemory, ReaderSource, Slot, Source, Vault, read_to_limit};
 use std::alloc::Global;
@@ -158,7 +158,7 @@ fn make_file<R: Folder>(folder: &mut R, name: &str, bytes: &[u8]) -> Result<(), 
 
 // Replaces what a file of the folder holds: a file with another name is made first, and then has its name. So a call that fails leaves
 // in the file what it had, or all of the bytes.
-#[tactic(auto, using(crate::proofs::FolderLaws::left_whole, crate::proofs::FolderLaws::moved_whole, crate::proofs::FaultLaws::unmoved))]
+#[tactic(auto, using(crate::proofs::FolderLaws::replace_laws, crate::proofs::FaultLaws::unmoved))]
 fn replace<R: Folder>(folder: &mut R, file: &SlotFile, bytes: &[u8]) -> Result<(), Failed>
     ensures whole { OnOk result (WhereTold (R.files folder.old) (R.files folder.new) (Replaces file.now bytes.now)) }
     ensures torn { OnErr result
@@ -205,8 +205,8 @@ impl<R: Folder + Drop> Vault for FolderVault<R> {
 
     /// Writes the bytes to a new file, waits until they are on the disk, and renames it. A store that fails leaves in the slot what it
     /// had, or all of the bytes. If the folder tells what it holds and counts its faults, it counted one then. No file is touched but
-    /// that of the slot and the one that has its name with `.new` at its end.
-    #[tactic(auto, using(crate::proofs::FolderLaws::store_laws))]
+    /// that of the slot and the one that has its name with `.new` at its end, which is gone after a store that didn't fail.
+    #[tactic(auto, using(crate::proofs::FolderLaws::whole_slots, crate::proofs::FolderLaws::torn_slots))]
     fn store(&mut self, slot: Slot, bytes: &[u8]) -> Result<(), Failed>
         ensures stored { OnOk result (WhereTold (slots_in self.old.zero self.old.one (R.files self.old.folder))
             (slots_in self.new.zero self.new.one (R.files self.new.folder)) (IsPut slot bytes.now)) }
@@ -216,8 +216,10 @@ impl<R: Folder + Drop> Vault for FolderVault<R> {
             (slots_in self.new.zero self.new.one (R.files self.new.folder)) (IsPutOrNot slot bytes.now)) }
         ensures failed { OnErr result (Known (R.files self.old.folder)
             (λ _. HasFailed (R.faults self.old.folder) (R.faults self.new.folder))) }
-        ensures others { WhereTold (R.files self.old.folder) (R.files self.new.folder)
-            (LeavesOthers (name_among slot self.old.zero self.old.one)) }
+        ensures replaced { OnOk result (WhereTold (R.files self.old.folder) (R.files self.new.folder)
+            (Replaces (name_among slot self.old.zero self.old.one) bytes.now)) }
+        ensures others { OnErr result (WhereTold (R.files self.old.folder) (R.files self.new.folder)
+            (IsReplacedOrNot (name_among slot self.old.zero self.old.one) bytes.now)) }
         ensures names { (self.new.zero ≡ self.old.zero) × (self.new.one ≡ self.old.one) }
         ensures count { MatchResult result (λ _. self.new.faults ≡ self.old.faults)
             (λ _. HasRisen self.old.faults self.new.faults) }

@@ -10,14 +10,14 @@
 --   joined_from              passes are made from the beginning, as long as one brings the search on
 --   some_text                lines that are enough make a text
 --   session_ends             how a session over lines that are enough may end
-use Rattle.std.proofs.Common.{◌≡◌, ℕ, zero, suc, ◌+◌, ◌^◌, ◌<◌, ◌≤◌, ◌==◌, ◌&&◌, ◌⊎◌, inl, inr, nat_le, nat_lt, not, Bool, true, false, find, List, [], ◌∷◌, ◌++◌, length, All, Contains, Option, is_some, refl, sym, ap, ap₂, subst, ◌∙◌, ⊎_elim, arith}
+use Rattle.std.proofs.Common.{◌≡◌, ℕ, zero, suc, ◌+◌, ◌^◌, ◌<◌, ◌≤◌, ◌==◌, ◌&&◌, ◌⊎◌, inl, inr, nat_le, nat_lt, not, Bool, true, false, find, List, [], ◌∷◌, length, All, Contains, Option, is_some, refl, sym, ap, ap₂, subst, ◌∙◌, ⊎_elim, arith}
 use Rattle.std.proofs.lemmas.Bool.{cases_Bool, cases_lt, and_parts, and_from, leb-true, ltb-true, le-leb, lt-ltb, eq-eqb, eqb-true, false≢true}
-use Rattle.std.proofs.lemmas.List.Elements.{All-contains, All-nil, All-cons, All-append}
+use Rattle.std.proofs.lemmas.List.Elements.{All-contains, All-cons}
 use Rattle.lc_algebra.specs.Matrix.{Matrix}
 use Rattle.lc_algebra.specs.Divisor.{divisor_of}
 use Rattle.lc_algebra.proofs.SpanLaws.{contains_head, contains_tail}
 use Rattle.lc_enumeration.specs.Search.{Found, Answer, set_count, is_done, found_first, found_from, least_of, answer, finished}
-use Rattle.lc_enumeration.specs.Records.{Progress, found_of, progress_of}
+use Rattle.lc_enumeration.specs.Records.{Progress, found_of}
 use Rattle.lc_enumeration.specs.Truth.{IsUnderway, answer_blocks}
 use Rattle.lc_enumeration.proofs.PlanLaws.{cut_is}
 use Rattle.lc_infoset.proofs.AnswerLaws.{some_set}
@@ -26,7 +26,7 @@ use Rattle.lc_infoset.proofs.SessionLaws.{target_is}
 use Rattle.lc_formats.specs.Checkpoint.{checkpoint_text}
 use Rattle.lc_part_laws.specs.Point.{joined_point}
 use Rattle.lc_parts.specs.Part.{Part, Facts, part_end, found_in, IsTruePart, facts_of}
-use Rattle.lc_parts.specs.Along.{first_by, end_by, is_answered, end_wanted, continues, after_part, with_part, along}
+use Rattle.lc_parts.specs.Along.{first_by, end_by, is_answered, end_wanted, continues, along}
 use Rattle.lc_parts.specs.Joined.{differs_from}
 use Rattle.lc_parts.proofs.FactsLaws.{end_is, finished_is}
 use Rattle.lc_share.specs.PartSession.{Ends, HasRead}

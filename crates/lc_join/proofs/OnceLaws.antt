@@ -2,7 +2,7 @@
 --   rests         where the search is answered or no part goes on, the parts change nothing
 --   one_end       passes over the same parts end in one state
 --   one_text, one_gap, one_kind      so some lines make one text, or lack one range of blocks, and not both
-use Rattle.std.proofs.Common.{◌≡◌, ℕ, zero, suc, ◌⊎◌, inl, inr, ◌<◌, ◌≤◌, true, false, if◌then◌else◌, List, [], ◌∷◌, length, All, refl, sym, ap, subst, ◌∙◌, ⊎_elim, arith}
+use Rattle.std.proofs.Common.{◌≡◌, ℕ, zero, suc, ◌⊎◌, inl, inr, ◌<◌, ◌≤◌, true, false, if◌then◌else◌, List, [], ◌∷◌, All, sym, ap, subst, ◌∙◌, ⊎_elim, arith}
 use Rattle.std.proofs.lemmas.Bool.{cases_Bool, cases_lt, false≢true}
 use Rattle.lc_enumeration.specs.Records.{Progress}
 use Rattle.lc_formats.specs.Checkpoint.{checkpoint_text}

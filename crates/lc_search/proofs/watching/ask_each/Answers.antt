@@ -1,4 +1,4 @@
-use Rattle.std.proofs.Common.{refl, arith, of_calls, subst, sym}
+use Rattle.std.proofs.Common.{refl, arith, of_calls}
 use Rattle.lc_io.specs.declared.watcher.Advice.TheVariants.{Go, Pause, Leave}
 use Rattle.lc_search.specs.Telling.{IsAskedBy}
 use Rattle.lc_search.proofs.TellingLaws.{asked_once, one_stays, one_leaves, asked_all, nobody_yet, flag_kept, flag_set}
