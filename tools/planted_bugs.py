@@ -1,7 +1,8 @@
 #!/usr/bin/env python3
 """Bugs that the contracts refuse, many in one check.
 
-    tools/planted_bugs.py                       whether each bug of tests/bugs/ can be planted: its lines stand once in its file. Proves nothing
+    tools/planted_bugs.py                       whether each bug of tests/bugs/ can be planted: its lines stand once in its file; and whether
+                                                none stands there twice. Proves nothing
     tools/planted_bugs.py [--bugs FOLDER] CRATE..       plants those of FOLDER (tests/bugs without it) in a copy, as many at a time as there
                                                 are functions, and says what the prover says. tools/small_changes.py makes such a folder
 
@@ -81,10 +82,18 @@ def crates():
 
 
 def all_can_be_planted():
-    stale = [bug for crate in crates() for bug in bugs_of(crate, FOLDER) if bug.planted(lines_of(f"{TOP}/crates/{crate}/{bug.file}")) is None]
-    for bug in stale:
-        print(f"can't be planted: {bug}")
-    return not stale
+    """Whether each bug can be planted, and none changes its file as another one does, blanks aside."""
+    fine, made = True, {}
+    for bug in (bug for crate in crates() for bug in bugs_of(crate, FOLDER)):
+        lines = bug.planted(lines_of(f"{TOP}/crates/{bug.crate}/{bug.file}"))
+        if lines is None:
+            print(f"can't be planted: {bug}")
+        elif made.setdefault((bug.crate, bug.file, "".join("".join(lines).split())), bug) is not bug:
+            print(f"stands twice: {bug}")
+        else:
+            continue
+        fine = False
+    return fine
 
 
 def first_of_each_function(bugs, top):
