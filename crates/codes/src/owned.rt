@@ -16,7 +16,10 @@ pub(crate) struct OwnedSurroundings<V, W> {
     pub(crate) watchers: Vec<W>,
 }
 
-impl<V: Folder + Drop, L: Write + Drop, F: Folder + Drop> OwnedSurroundings<V, ProgramWatcher<L, F>> {
+impl<V: Folder + Drop, L: Write + Drop, F: Folder + Drop> OwnedSurroundings<
+    V,
+    ProgramWatcher<L, F>,
+> {
     /// Slots in the first folder, a watcher that writes the lines of records to `records`, and one that looks in the second folder
     /// for the file that stops a session. Fails only if memory runs out.
     pub(crate) fn new(

@@ -32,14 +32,7 @@ impl Termination for Exit {
 /// Runs the program over these streams, and over the slots and watchers that were made for it. If memory ran out when they were
 /// made, nothing is read or written, and the status is that of want of memory.
 #[tactic(auto, unfolding(lc_session_rules::specs::Endings::ending_number))]
-pub(crate) fn run<
-    R: Threads + Sync,
-    S: Source,
-    K: Sink,
-    V: Folder + Drop,
-    W: Watcher,
-    E: Sink,
->(
+pub(crate) fn run<R: Threads + Sync, S: Source, K: Sink, V: Folder + Drop, W: Watcher, E: Sink>(
     host: &Host<'_, R>,
     source: &mut S,
     sink: &mut K,
