@@ -79,3 +79,7 @@ pub moved_on : {T E : Type 0} (r came : Result T E) (from to : List ℕ) (a b c 
     → OnOk r (WhereTold (Some a) (Some d) (IsMoved from to))
 moved_on (Ok v) came from to a b c d same before is after = (d, refl, moves from to a b c d before (subst (λ r. OnOk r (IsMoved from to b c)) (sym same) is) after)
 moved_on (Err e) came from to a b c d same before is after = tt
+
+pub ruleset made_laws = (rose_or, same_or, or_came_to)
+
+pub ruleset moved_laws = (moved_on, rose_or, same_or, or_came_to)

@@ -215,7 +215,7 @@ impl Folder for MemoryFolder {
     }
 
     /// Fails exactly if the number of the call is one that fails, or there is such a file, or for want of memory.
-    #[tactic(auto, using(crate::proofs::MemoryLaws::rose_or, crate::proofs::MemoryLaws::same_or, crate::proofs::MemoryLaws::or_came_to))]
+    #[tactic(auto, using(crate::proofs::MemoryLaws::made_laws))]
     fn open_writer(&mut self, name: &str) -> io::Result<MemoryFile>
         ensures created { IfOk result (λ file. IsNew (Some (files_in self.old)) name.now (Some file)) }
         ensures others { WhereTold (Some (files_in self.old)) (Some (files_in self.new)) (IsTouched name.now) }
@@ -285,7 +285,7 @@ impl Folder for MemoryFolder {
     }
 
     /// Fails exactly if the number of the call is one that fails, or there is no such file, or for want of memory.
-    #[tactic(auto, using(crate::proofs::MemoryLaws::moved_on, crate::proofs::MemoryLaws::rose_or, crate::proofs::MemoryLaws::same_or, crate::proofs::MemoryLaws::or_came_to))]
+    #[tactic(auto, using(crate::proofs::MemoryLaws::moved_laws))]
     fn move_file(&mut self, from: &str, to: &str) -> io::Result<()>
         ensures moved { OnOk result
             (WhereTold (Some (files_in self.old)) (Some (files_in self.new)) (IsMoved from.now to.now)) }

@@ -13,7 +13,8 @@ fn ask_each<T: Drop, F: FnMut(&mut T, &Record) -> Advice>(
     mut ask: F,
 ) -> bool
     requires { F.IsAlwaysCallable ask }
-    ensures asked { AsksInTurn (IsAskedBy (λ f item about advice left after. F.step f item about advice left after) note.now)
+    ensures asked { AsksInTurn
+        (IsAskedBy (λ f item about advice left after. F.step f item about advice left after) note.now)
         ask items.old.items items.new.items result }
 {
     let mut paused = false;
