@@ -48,4 +48,4 @@ Status:
 ";
 
 /// What `--version` prints.
-pub(crate) const VERSION: &str = "codes 0.6.12\n";
+pub(crate) const VERSION: &str = "codes 0.6.13\n";

@@ -25,6 +25,7 @@ use Rattle.lc_formats.specs.Check.{reads_as, refused_as, rows_at, field_at, fit,
 use Rattle.lc_json.specs.Inside.{members_in}
 use Rattle.lc_certificate.specs.Reading.{IsRefusedAs, way_at, distance_at}
 use Rattle.lc_certificate.specs.Seen.{proof_of, certificate_of}
+use Rattle.lc_certificate.proofs.RowLaws.{rows_read}
 use Rattle.lc_certificate.specs.declared.certificate.Certificate as made
 use Rattle.lc_certificate.specs.declared.refusal.CertRefusal.{CertRefusal}
 use Rattle.lc_certificate.specs.declared.refusal.CertRefusal.TheVariants.{NotJson, Shape, Limit, NoMemory}
@@ -169,7 +170,7 @@ read_shaped bytes d (Err x) h e = e
 
 pub ruleset distance_at_laws = (distance_found, distance_zero, distance_nowhere)
 
-pub ruleset parts_of_laws = (no_rows, no_word, no_distance, parts_way)
+pub ruleset parts_of_laws = (no_rows, no_word, no_distance, parts_way, rows_read)
 
 pub ruleset check_closed_laws = (not_closed, beyond, is_closed)
 

@@ -2,10 +2,12 @@
 --   word_no_array, word_other_length      no list, or one of another length, is no word
 --   word_missing, word_done      a list one of whose numbers is no element of the field is none, and one whose numbers all are is one
 --   word_found, word_nowhere     the word at a key
+--   word_there                   an object with an array at the key
 --   rows_none, rows_no_array, rows_empty      what begins with no row is no rows
 --   rows_missing, rows_done      rows one of which doesn't fit are none, and those that all fit are some
 --   rows_found, rows_nowhere     the rows of an object
-use Rattle.std.proofs.Common.{◌≡◌, ◌≢◌, ℕ, ◌<◌, ◌≤◌, ◌==◌, ◌&&◌, false, nat_lt, nat_le, List, [], ◌∷◌, length, get_or, take, map, codes, Option, Some, None, option_map, option_and_then, refl, sym, ap, ◌∙◌, arith}
+--   rows_there, rows_read        an object whose rows were found, or read, has an array of rows
+use Rattle.std.proofs.Common.{◌≡◌, ◌≢◌, ℕ, ◌<◌, ◌≤◌, ◌&&◌, false, nat_lt, nat_le, List, [], ◌∷◌, length, get_or, take, map, codes, Option, Some, None, IsSome, option_map, option_and_then, refl, sym, ap, subst, ◌∙◌, arith}
 use Rattle.std.specs.List.{list_all}
 use Rattle.std.proofs.lemmas.Bool.{eq-eqb, le-leb, ne_eqb}
 use Rattle.std.proofs.lemmas.Simd.{map-map}
@@ -20,6 +22,7 @@ use Rattle.lc_formats.specs.Json.{plain_number, numbers_of, list_at, listed, eac
 use Rattle.lc_formats.specs.Check.{fit, are_rows, rows_at}
 use Rattle.lc_formats.proofs.ReadLaws.{each_length}
 use Rattle.lc_json.specs.Inside.{members_in}
+use Rattle.lc_certificate.specs.Reading.{HasArray}
 use Rattle.lc_json.proofs.EachLaws.{some_of, each_none, each_whole, each_provided, provided_same, provided_none, each_next, each_start}
 use Rattle.lc_json.proofs.InsideLaws.{get_inside, numbers_are, no_numbers}
 
@@ -64,6 +67,10 @@ word_found f n k d e h = ap (λ o. provided (fit f n) (option_and_then numbers_o
 pub word_nowhere : (f : FieldName) (n : ℕ) (k : List ℕ) (d : Data) → None ≡ get k d → provided (fit f n) (list_at k (members_in d)) ≡ None
 unfolding list_at provided
 word_nowhere f n k d h = ap (λ o. provided (fit f n) (option_and_then numbers_of o)) (sym (get_inside k d) ∙ sym h)
+
+pub word_there : (k : List ℕ) (d e : Data) → Some e ≡ get k d → IsSome (as_array e) → HasArray k (members_in d)
+unfolding HasArray
+word_there k d e h some = subst (λ o. IsSome (option_and_then as_array o)) (h ∙ get_inside k d) some
 
 pub rows_none : (f : FieldName) (vs : List Value) → length vs < 1 → provided (are_rows f) (each (map numbers_of (map view vs))) ≡ None
 unfolding each provided are_rows columns_of
@@ -126,4 +133,23 @@ pub ruleset word_of_laws = (word_no_array, word_other_length, word_missing, word
 
 pub ruleset rows_of_laws = (rows_none, rows_no_array, rows_empty, rows_missing, rows_done, each_next, each_start)
 
-pub ruleset rows_at_laws = (rows_found, rows_nowhere)
+items_there : (o : Option Items) (ds : List Data) → Some ds ≡ option_map listed o → IsSome o
+items_there None ds h = absurd cc
+items_there (Some es) ds h = refl
+
+pub rows_there : (ms : Members) (ds : List Data) → Some ds ≡ option_map listed (option_and_then as_array (get_member (codes "rows") ms)) → HasArray (codes "rows") ms
+unfolding HasArray
+rows_there ms ds h = items_there (option_and_then as_array (get_member (codes "rows") ms)) ds h
+
+items_read : (f : FieldName) (o : Option Items) (rows : List (List ℕ)) → Some rows ≡ provided (are_rows f) (option_and_then (λ es. each (map numbers_of (listed es))) o) → IsSome o
+unfolding provided
+items_read f None rows h = absurd cc
+items_read f (Some es) rows h = refl
+
+pub rows_read : (f : FieldName) (ms : Members) (rows : List (List ℕ)) → Some rows ≡ provided (are_rows f) (rows_at ms) → HasArray (codes "rows") ms
+unfolding HasArray rows_at
+rows_read f ms rows h = items_read f (option_and_then as_array (get_member (codes "rows") ms)) rows h
+
+pub ruleset word_at_laws = (word_found, word_nowhere, word_there)
+
+pub ruleset rows_at_laws = (rows_found, rows_nowhere, rows_there)

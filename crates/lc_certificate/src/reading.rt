@@ -1,5 +1,5 @@
 //! How bytes are read as a certificate.
-ghost use Rattle.std.specs.Prelude.{◌≡◌, ◌≢◌, Err, IsTrue, IsSome, IsErrOf, IfOk, IfErr};
+ghost use Rattle.std.specs.Prelude.{◌≡◌, ◌≢◌, codes, Err, IsTrue, IsSome, IsErrOf, IfOk, IfErr};
 ghost use Rattle.serde_json.specs.Find.{as_object};
 ghost use Rattle.serde_json.specs.View.{view};
 ghost use Rattle.lc_constructions.specs.Refusals.{columns_of};
@@ -10,7 +10,7 @@ ghost use Rattle.lc_formats.specs.Document.{symbol_field};
 ghost use Rattle.lc_formats.specs.Check.{certificate_in, reads_as, field_at, parts_in, key_count, set_total, is_beyond_limit, closed, is_version, object_in};
 ghost use Rattle.lc_json.specs.Inside.{members_in};
 ghost use Rattle.lc_certificate.specs.Seen.{proof_of, certificate_of};
-ghost use Rattle.lc_certificate.specs.Reading.{IsRefusedAs, distance_at};
+ghost use Rattle.lc_certificate.specs.Reading.{IsRefusedAs, HasArray, distance_at};
 
 use crate::certificate::{Certificate, Proof};
 use crate::refusal::CertRefusal;
@@ -83,6 +83,8 @@ fn columns_of(rows: &[Word]) -> usize
 pub fn parts_of(alloc: Global, object: &Value, field: FieldName) -> Result<Certificate, CertRefusal>
     ensures is { IfOk result (λ c. parts_in (members_in (view object.now)) field ≡ reads_as (certificate_of c)) }
     ensures refused { IfErr result (λ e. IsRefusedAs e (parts_in (members_in (view object.now)) field)) }
+    // It takes memory only for an object that has an array of rows.
+    ensures needed { IsErrOf result CertRefusal.NoMemory → HasArray (codes "rows") (members_in (view object.now)) }
 {
     let Some(rows) = rows_at(alloc, object, field)? else {
         return Err(CertRefusal::Shape(4));
@@ -158,9 +160,10 @@ fn check_closed(object: &Value, cert: &Certificate) -> Result<(), CertRefusal>
 pub fn certificate_from(alloc: Global, value: &Value) -> Result<Certificate, CertRefusal>
     ensures is { IfOk result (λ c. object_in (as_object (view value.now)) ≡ reads_as (certificate_of c)) }
     ensures refused { IfErr result (λ e. IsRefusedAs e (object_in (as_object (view value.now)))) }
-    // It takes memory only for an object whose version and field are right.
+    // It takes memory only for an object whose version and field are right, and that has an array of rows.
     ensures needed { IsErrOf result CertRefusal.NoMemory →
-        IsTrue (is_version 1 (members_in (view value.now))) × IsSome (field_at (members_in (view value.now))) }
+        IsTrue (is_version 1 (members_in (view value.now))) × IsSome (field_at (members_in (view value.now)))
+        × HasArray (codes "rows") (members_in (view value.now)) }
 {
     if !value.is_object() {
         return Err(CertRefusal::Shape(1));

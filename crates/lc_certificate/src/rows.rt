@@ -1,10 +1,12 @@
 //! Reads the rows and the word of a certificate.
-ghost use Rattle.std.specs.Prelude.{◌≡◌, ◌<◌, nat_lt, map, option_map, IfOk};
+ghost use Rattle.std.specs.Prelude.{◌≡◌, ◌<◌, nat_lt, map, option_map, codes, IsSome, IfOk, IfErr};
+ghost use Rattle.serde_json.specs.Find.{as_array};
 ghost use Rattle.serde_json.specs.View.{view};
 ghost use Rattle.lc_algebra.specs.Field.{size};
 ghost use Rattle.lc_formats.specs.Json.{plain_number, numbers_of, list_at, each, provided};
 ghost use Rattle.lc_formats.specs.Check.{fit, are_rows, rows_at};
 ghost use Rattle.lc_json.specs.Inside.{members_in};
+ghost use Rattle.lc_certificate.specs.Reading.{HasArray};
 
 use crate::certificate::size_of;
 use lc_algebra::FieldName;
@@ -39,6 +41,7 @@ fn word_of(
     value: &Value,
 ) -> Result<Option<Word>, NoMemory>
     ensures is { IfOk result (λ o. o ≡ provided (fit field n) (numbers_of (view value.now))) }
+    ensures needed { IfErr result (λ _. IsSome (as_array (view value.now))) }
 {
     let Some(items) = value.as_array() else {
         return Ok(None);
@@ -82,7 +85,7 @@ fn rows_of(alloc: Global, field: FieldName, items: &[Value]) -> Result<Option<Ve
     Ok(Some(rows))
 }
 
-// The rows of an object.
+// The rows of an object. Memory is taken only for an array.
 #[tactic(auto, using(crate::proofs::RowLaws::rows_at_laws))]
 pub(crate) fn rows_at(
     alloc: Global,
@@ -91,6 +94,7 @@ pub(crate) fn rows_at(
 ) -> Result<Option<Vec<Word>>, NoMemory>
     ensures is { IfOk result
         (λ o. option_map (λ v. v.items) o ≡ provided (are_rows field) (rows_at (members_in (view object.now)))) }
+    ensures needed { IfErr result (λ _. HasArray (codes "rows") (members_in (view object.now))) }
 {
     match array_at(object, "rows") {
         Some(items) => rows_of(alloc, field, items),
@@ -98,8 +102,8 @@ pub(crate) fn rows_at(
     }
 }
 
-// The word of length n at a key of an object.
-#[tactic(auto, using(crate::proofs::RowLaws::word_found, crate::proofs::RowLaws::word_nowhere))]
+// The word of length n at a key of an object. Memory is taken only for an array.
+#[tactic(auto, using(crate::proofs::RowLaws::word_at_laws))]
 pub(crate) fn word_at(
     alloc: Global,
     object: &Value,
@@ -108,6 +112,7 @@ pub(crate) fn word_at(
     n: usize,
 ) -> Result<Option<Word>, NoMemory>
     ensures is { IfOk result (λ o. o ≡ provided (fit field n) (list_at key.now (members_in (view object.now)))) }
+    ensures needed { IfErr result (λ _. HasArray key.now (members_in (view object.now))) }
 {
     match object.get(key) {
         Some(value) => word_of(alloc, field, n, value),

@@ -1,14 +1,15 @@
 //! Pieces of compact JSON, each put after a text that has begun. If memory runs out, the text is as before.
-ghost use Rattle.std.specs.Prelude.{◌≡◌, ◌∷◌, ◌++◌, length, map, take, flat_map, OnOk, OnErr, decimal};
+ghost use Rattle.std.specs.Prelude.{◌≡◌, [], ◌∷◌, ◌++◌, length, map, take, flat_map, IsOk, OnOk, OnErr, decimal};
 ghost use Rattle.lc_formats.specs.Text.{bracketed, numbers_text};
 
 use itoa::{Buffer, Integer};
 use lc_field::NoMemory;
 
-/// Puts `piece` after the text.
+/// Puts `piece` after the text. An empty one takes no memory.
 pub fn push_text(text: &mut Vec<u8>, piece: &[u8]) -> Result<(), NoMemory>
     ensures is { OnOk result (text.new.items ≡ text.old.items ++ piece.now) }
     ensures kept { OnErr result (text.new.items ≡ text.old.items) }
+    ensures nothing { piece.now ≡ [] → IsOk result }
 {
     text.extend_from_slice(piece)?;
     Ok(())

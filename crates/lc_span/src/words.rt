@@ -1,5 +1,5 @@
 //! The words that some rows span, one after another.
-ghost use Rattle.std.specs.Prelude.{◌≡◌, suc, ◌-◌, ◌^◌, ◌<◌, ◌≤◌, ◌++◌, length, take, drop, map, flat_map, IfOk, OnErr};
+ghost use Rattle.std.specs.Prelude.{◌≡◌, suc, ◌-◌, ◌^◌, ◌<◌, ◌≤◌, ◌++◌, length, take, drop, map, flat_map, IfOk, IfErr, OnErr};
 ghost use Rattle.lc_algebra.specs.Field.{size};
 ghost use Rattle.lc_algebra.specs.Word.{Fits, word_sum, scale as scale_of};
 ghost use Rattle.lc_algebra.specs.Matrix.{AreRows};
@@ -64,7 +64,8 @@ fn multiple_of(alloc: Global, field: &Field, row: &[u8], c: u8) -> Result<Word, 
     Ok(Word::from_vec(symbols))
 }
 
-/// Pushes the sums of a word and each of some words, which have its length. If memory runs out, the list is as before.
+/// Pushes the sums of a word and each of some words, which have its length. If memory runs out, the list is as before; for no words
+/// none is taken.
 pub fn push_sums(
     alloc: Global,
     field: &Field,
@@ -76,6 +77,7 @@ pub fn push_sums(
     requires words { AreRows field.now (length word.now) list.now }
     ensures are { IfOk result (λ _. sums.new.items ≡ sums.old.items ++ map (word_sum field.now word.now) list.now) }
     ensures kept { OnErr result (sums.new.items ≡ sums.old.items) }
+    ensures needed { IfErr result (λ _. 0 < length list.now) }
 {
     let start = sums.len();
     let pushed = push_each(alloc, field, word, list, sums);
@@ -97,6 +99,7 @@ fn push_each(
     requires words { AreRows field.now (length word.now) list.now }
     ensures are { IfOk result (λ _. sums.new.items ≡ sums.old.items ++ map (word_sum field.now word.now) list.now) }
     ensures front { take (length sums.old.items) sums.new.items ≡ sums.old.items }
+    ensures needed { IfErr result (λ _. 0 < length list.now) }
 {
     for i in 0..list.len() {
         let mut sum = Word::zero(alloc, word.len())?;

@@ -1,5 +1,5 @@
 //! Words that own their symbols.
-ghost use Rattle.std.specs.Prelude.{◌≡◌, ℕ, ◌<◌, List, length, IfOk};
+ghost use Rattle.std.specs.Prelude.{◌≡◌, ℕ, ◌<◌, List, [], length, IsOk, IfOk};
 ghost use Rattle.lc_algebra.specs.Field.{size};
 ghost use Rattle.lc_algebra.specs.Word.{Fits, zero_word, word_sum, scale as scale_of};
 
@@ -23,13 +23,15 @@ impl Model for Word {
 }
 
 impl Word {
-    /// The word with these symbols. Any list of symbols is a word; which field they belong to is the caller's to know.
+    /// The word with these symbols. Any list of symbols is a word; which field they belong to is the caller's to know. A word of no
+    /// symbols takes no memory.
     pub fn from_slice(alloc: Global, symbols: &[u8]) -> Result<Word, NoMemory>
         ensures is { IfOk result (λ w. w ≡ symbols.now) }
+        ensures nothing { symbols.now ≡ [] → IsOk result }
     {
-        Ok(Word {
-            symbols: symbols.to_vec(alloc)?,
-        })
+        let mut list = Vec::new(alloc);
+        list.extend_from_slice(symbols)?;
+        Ok(Word { symbols: list })
     }
 
     /// The word with these symbols, whose memory it keeps; no other is taken.

@@ -12,7 +12,7 @@ returns-in_err-cert-clause-refused c =
     rw (p.1, p.2) (still_refused (view c.args.value.now) c.in-Some.field c.in_err-cert.field-0.0 (search rules) (search rules) (search rules) c.in_err-cert.ensures.refused)
 
 pub returns-in_err-cert-clause-needed : goal.returns-in_err-cert-clause-needed
-returns-in_err-cert-clause-needed c = λ none. (version_is (members_in (view c.args.value.now)) (search rules), search rules)
+returns-in_err-cert-clause-needed c = λ none. (version_is (members_in (view c.args.value.now)) (search rules), search rules, search rules)
 
 pub returns-in_err-check_closed-clause-refused : goal.returns-in_err-check_closed-clause-refused
 returns-in_err-check_closed-clause-refused c =
