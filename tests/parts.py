@@ -96,6 +96,7 @@ def shared(program, script, budget, pieces, seed):
         return
     lines = [found[1] for found in done]
     mixed = lines + chance.sample(lines, len(lines) // 4 + 1) + [line[: chance.randrange(len(line))] + b"\n" for line in chance.sample(lines, len(lines) // 4 + 1)]
+    mixed.append(b"\n")
     chance.shuffle(mixed)
     found = joined_text(program, script, b"".join(mixed), *words)
     if found[0] != 0 or found[1][:2] != (status, text):

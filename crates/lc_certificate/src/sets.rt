@@ -1,5 +1,5 @@
 //! Reads the sets of a certificate, and how its distance is proved.
-ghost use Rattle.std.specs.Prelude.{◌≡◌, nat_lt, is_some, ◌<◌, ◌==◌, map, All, Option, option_map, Some, false, IsErrOf, IfOk, IfErr};
+ghost use Rattle.std.specs.Prelude.{◌≡◌, nat_lt, is_some, ◌<◌, ◌==◌, map, All, Option, option_map, Some, false, IsErrOf, IsSome, IfOk, IfErr};
 ghost use Rattle.std.specs.List.{list_all};
 ghost use Rattle.std.specs.List.Sorted.{IsStrictlyIncreasing};
 ghost use Rattle.serde_json.specs.Find.{as_object};
@@ -194,6 +194,7 @@ fn levels_at(alloc: Global, object: &Value, n: u64) -> Result<Proof, CertRefusal
         → sets_in n make (sets_at (members_in (view object.now))) ≡ reads_as (make (proof_of p))) }
     ensures refused { IfErr result (λ e. (make : formats.Proof → formats.Certificate)
         → IsRefusedAs e (sets_in n make (sets_at (members_in (view object.now))))) }
+    ensures needed { IsErrOf result CertRefusal.NoMemory → IsSome (sets_at (members_in (view object.now))) }
 {
     let Some(sets) = sets_at(object) else {
         return Err(CertRefusal::Shape(8));
@@ -215,7 +216,8 @@ pub(crate) fn proof_at(alloc: Global, object: &Value, n: u64) -> Result<Proof, C
         ≡ reads_as (make (proof_of p))) }
     ensures refused { IfErr result (λ e. (make : formats.Proof → formats.Certificate)
         → IsRefusedAs e (way_in (members_in (view object.now)) n make (way_at (members_in (view object.now))))) }
-    ensures needed { IsErrOf result CertRefusal.NoMemory → way_at (members_in (view object.now)) ≡ Some false }
+    ensures needed { IsErrOf result CertRefusal.NoMemory →
+        (way_at (members_in (view object.now)) ≡ Some false) × IsSome (sets_at (members_in (view object.now))) }
 {
     match way_at(object) {
         Some(true) => {

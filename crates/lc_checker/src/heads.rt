@@ -3,7 +3,7 @@
 //! a difference: the number of places at which two words, given as bits, differ. Of the heads it takes those whose first
 //! coefficient other than 0 is 1, since nonzero multiples have one weight.
 
-ghost use Rattle.std.specs.Prelude.{◌≡◌, ℕ, ◌+◌, ◌-◌, ◌*◌, ◌^◌, ◌<◌, ◌≤◌, false, List, [], length, drop, slice_index_or, None, find, IfOk};
+ghost use Rattle.std.specs.Prelude.{◌≡◌, ℕ, suc, ◌+◌, ◌-◌, ◌*◌, ◌^◌, ◌<◌, ◌≤◌, false, List, [], length, drop, slice_index_or, None, find, IfOk};
 ghost use Rattle.lc_algebra.specs.Field.{size};
 ghost use Rattle.lc_algebra.specs.Span.{InSpan, words};
 ghost use Rattle.lc_planes.specs.Packing.{ArePacked, places_apart as apart};
@@ -100,10 +100,12 @@ fn in_parts<const P: usize, const N: usize>(
     Ok(light)
 }
 
-// How many of the first rows make up heads.
+// How many of the first rows make up heads: the others, which make up tails, have at most 4,096 words, and as many as may be.
 fn split_of(rows: &Matrix) -> usize
     requires symbol { size rows.now.field ≤ 16 }
     ensures most { result ≤ length rows.now.rows }
+    ensures few { size rows.now.field ^ (length rows.now.rows - result) ≤ 4096 }
+    ensures greatest { 0 < result → 4096 < size rows.now.field ^ suc (length rows.now.rows - result) }
 {
     let k = rows.rows();
     k - tail_rows(rows.field().size() as u64, k)

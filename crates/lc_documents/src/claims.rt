@@ -1,7 +1,7 @@
 //! Reads claims with their parts.
 ghost use Rattle.std.specs.Prelude.{◌≡◌, ◌<◌, codes, option_map, option_and_then, IsSome, IfOk, IfErr};
 ghost use Rattle.serde_json.specs.View.{view};
-ghost use Rattle.lc_formats.specs.Json.{number_at};
+ghost use Rattle.lc_formats.specs.Json.{number_at, member_count};
 ghost use Rattle.lc_formats.specs.Document.{symbol_field, of_pair, of_concat, of_subcode, of_places, of_extend, kind_at, object_at, claim_from};
 ghost use Rattle.lc_json.specs.Inside.{members_in};
 ghost use Rattle.lc_certificate.specs.Trees.{pair_of, place_of, claim_of};
@@ -77,6 +77,7 @@ fn pair_at(
 ) -> Result<Option<Claim>, NoMemory>
     ensures is { IfOk result
         (λ o. option_map claim_of o ≡ kind_claim most field (members_in (view object.now)) (of_pair (pair_of kind))) }
+    ensures needed { IfErr result (λ _. member_count (members_in (view object.now)) ≡ 3) }
 {
     if !has_keys(object, 3) {
         return Ok(None);
@@ -103,6 +104,8 @@ fn concat_at(
 ) -> Result<Option<Claim>, NoMemory>
     ensures is { IfOk result
         (λ o. option_map claim_of o ≡ kind_claim most field (members_in (view object.now)) of_concat) }
+    ensures needed { IfErr result (λ _. (member_count (members_in (view object.now)) ≡ 4)
+        × IsSome (option_and_then symbol_field (number_at (codes "large") (members_in (view object.now))))) }
 {
     if !has_keys(object, 4) {
         return Ok(None);
@@ -147,6 +150,7 @@ fn subcode_at(
 ) -> Result<Option<Claim>, NoMemory>
     ensures is { IfOk result
         (λ o. option_map claim_of o ≡ kind_claim most field (members_in (view object.now)) of_subcode) }
+    ensures needed { IfErr result (λ _. member_count (members_in (view object.now)) ≡ 3) }
 {
     if !has_keys(object, 3) {
         return Ok(None);
@@ -174,6 +178,7 @@ fn places_at(
     ensures is { IfOk result
         (λ o. option_map claim_of o
         ≡ kind_claim most field (members_in (view object.now)) (of_places (place_of kind))) }
+    ensures needed { IfErr result (λ _. member_count (members_in (view object.now)) ≡ 3) }
 {
     if !has_keys(object, 3) {
         return Ok(None);
@@ -199,6 +204,7 @@ fn extend_at(
 ) -> Result<Option<Claim>, NoMemory>
     ensures is { IfOk result
         (λ o. option_map claim_of o ≡ kind_claim most field (members_in (view object.now)) of_extend) }
+    ensures needed { IfErr result (λ _. member_count (members_in (view object.now)) ≡ 2) }
 {
     if !has_keys(object, 2) {
         return Ok(None);

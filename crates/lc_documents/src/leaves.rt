@@ -1,9 +1,11 @@
 //! Reads claims without parts.
-ghost use Rattle.std.specs.Prelude.{◌≡◌, option_map, IfOk};
+ghost use Rattle.std.specs.Prelude.{◌≡◌, codes, option_map, IfOk, IfErr};
 ghost use Rattle.serde_json.specs.View.{view};
+ghost use Rattle.lc_formats.specs.Json.{member_count};
 ghost use Rattle.lc_formats.specs.Check.{reads_as, parts_in};
 ghost use Rattle.lc_formats.specs.Document.{search_of};
 ghost use Rattle.lc_json.specs.Inside.{members_in};
+ghost use Rattle.lc_certificate.specs.Reading.{HasArray};
 ghost use Rattle.lc_certificate.specs.Seen.{certificate_of};
 ghost use Rattle.lc_certificate.specs.Trees.{claim_of};
 ghost use Rattle.lc_documents.specs.Parts.{form_in};
@@ -26,6 +28,7 @@ pub(crate) fn search_at(
     ensures is { IfOk result
         (λ o. option_map claim_of o
         ≡ search_of (members_in (view object.now)) (parts_in (members_in (view object.now)) field)) }
+    ensures needed { IfErr result (λ _. HasArray (codes "rows") (members_in (view object.now))) }
 {
     match parts_of(alloc, object, field) {
         Ok(cert) => Ok(search_with(object, cert)),
@@ -52,6 +55,7 @@ fn search_with(object: &Value, cert: Certificate) -> Option<Claim>
 #[tactic(auto, using(crate::proofs::LeafLaws::form_at_laws), unfolding(lc_certificate::specs::Trees::claim_of))]
 pub(crate) fn form_at(alloc: Global, object: &Value) -> Result<Option<Claim>, NoMemory>
     ensures is { IfOk result (λ o. option_map claim_of o ≡ form_in (members_in (view object.now))) }
+    ensures needed { IfErr result (λ _. member_count (members_in (view object.now)) ≡ 5) }
 {
     if !has_keys(object, 5) {
         return Ok(None);

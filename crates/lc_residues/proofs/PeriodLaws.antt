@@ -1,11 +1,12 @@
 -- Gaussian periods in the symbol fields, by a test of each length.
 --   period_there, period_missing      there is a period of each length at which the code is asked for
 --   least_period           the least one is a period
+--   none_before            no period has a number below that of the least one
 --   period_found           the first one that the loop meets is the least
-use Rattle.std.proofs.Common.{◌≡◌, ℕ, zero, suc, ◌+◌, ◌<◌, ◌≤◌, Bool, true, false, not, ◌||◌, refl, sym, subst, ◌∙◌, ⊎_elim, arith, true≢false}
+use Rattle.std.proofs.Common.{◌≡◌, ℕ, zero, suc, ◌+◌, ◌<◌, ◌≤◌, Bool, true, false, not, ◌||◌, refl, sym, ap, subst, ◌∙◌, ⊎_elim, arith, true≢false}
 use Rattle.std.specs.Prelude.{IsTrue}
 use Rattle.std.specs.List.{list_any}
-use Rattle.std.proofs.lemmas.Bool.{cases_lt, cases_eq}
+use Rattle.std.proofs.lemmas.Bool.{cases_Bool, cases_lt, cases_eq}
 use Rattle.lc_algebra.specs.declared.FieldName.{FieldName}
 use Rattle.lc_algebra.specs.declared.FieldName.TheVariants.{Gf2}
 use Rattle.lc_algebra.specs.Residue.{digits, number, plus, minus, times, top, up, times_x, product}
@@ -59,3 +60,19 @@ least_period f n a l b =
     let (t, p, e) = period_there f n a l b in
     let (q, r) = found_before (is_period f n) 0 (size f) t (omega arith) (omega (arith, p)) e in
     (omega (arith, r), q)
+
+first_bound : (test : ℕ → Bool) (start count i : ℕ) → start ≤ i → i < start + count → test i ≡ true → first_from test start count ≤ i
+first_bound test start zero i l m h = absurd (omega (arith, l, m))
+first_bound test start (suc count) i l m h =
+    ⊎_elim
+    (λ e. let s = stops test start count e in omega (arith, s, l))
+    (λ e.
+    let s = goes_on test start count e in
+    let d : suc start ≤ i = ⊎_elim (λ q. absurd (true≢false (sym h ∙ ap test q ∙ e))) (λ n. omega (arith, l, n)) (cases_eq i start) in
+    let t = first_bound test (suc start) count i d (omega (arith, m)) h in
+    omega (arith, s, t))
+    (cases_Bool (test start))
+
+pub none_before : (f : FieldName) (n t : ℕ) → t < size f → IsTrue (is_period f n t) → period f n ≤ t
+unfolding period first_that
+none_before f n t l e = first_bound (is_period f n) 0 (size f) t (omega arith) (omega (arith, l)) e

@@ -28,13 +28,15 @@ pub fn residue_codes_have_their_symmetries(field: FieldName)
         InCode C w ↔ InCode D (multiplied n r w) }
 {}
 
-/// The size of the field is a quadratic residue modulo n, an odd prime below 256. Then the least period is a period, and there is
-/// another one; the code of each period has dimension (n + 1) / 2; a word of the codes of both has equal symbols; and the code of the
-/// least period is a quadratic residue code: it is given by its reduced generator matrix, is cyclic, has the word of ones and this
-/// dimension, and the multiplication of the coordinates by a residue keeps it (MacWilliams and Sloane, chapter 16).
+/// The size of the field is a quadratic residue modulo n, an odd prime below 256. Then the least period is a period, no period has a
+/// smaller number, and there is another one; the code of each period has dimension (n + 1) / 2; a word of the codes of both has equal
+/// symbols; and the code of the least period is a quadratic residue code: it is given by its reduced generator matrix, is cyclic, has
+/// the word of ones and this dimension, and the multiplication of the coordinates by a residue keeps it (MacWilliams and Sloane,
+/// chapter 16).
 pub fn quadratic_residue_codes(field: FieldName)
     ensures least { (n : ℕ) → IsTrue (is_symbol field) → n ≤ 255 → IsTrue (is_residue_length (size field) n) →
         (period field n < size field) × IsTrue (is_period field n (period field n)) }
+    ensures first { (n t : ℕ) → t < size field → IsTrue (is_period field n t) → period field n ≤ t }
     ensures other { (n t : ℕ) → IsTrue (is_symbol field) → n ≤ 255 → IsTrue (is_residue_length (size field) n) →
         t < size field → IsTrue (is_period field n t) →
         (other_period field t < size field) × IsTrue (is_period field n (other_period field t)) ×

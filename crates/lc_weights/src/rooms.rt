@@ -1,5 +1,5 @@
 //! The rooms of the workers that count the words of a code.
-ghost use Rattle.std.specs.Prelude.{◌≡◌, ℕ, ◌+◌, ◌-◌, ◌*◌, ◌^◌, ◌≤◌, length, take, drop, slice_index, All, sum_by, IfOk};
+ghost use Rattle.std.specs.Prelude.{◌≡◌, ℕ, suc, ◌+◌, ◌-◌, ◌*◌, ◌^◌, ◌<◌, ◌≤◌, length, take, drop, slice_index, All, sum_by, IfOk};
 ghost use Rattle.lc_algebra.specs.Field.{size};
 ghost use Rattle.lc_algebra.specs.Span.{words};
 ghost use Rattle.lc_enumeration.specs.Message.{numbers_from};
@@ -54,11 +54,12 @@ pub(crate) fn count_rooms<R: Threads + Sync, const P: usize, const N: usize>(
     Ok(Counted { first, rooms })
 }
 
-// How many of the first rows of a code make up heads: the others, which make up tails, have at most 4,096 words.
+// How many of the first rows of a code make up heads: the others, which make up tails, have at most 4,096 words, and as many as may be.
 #[tactic(auto, using(lc_code::proofs::CoordinateSteps::small_size))]
 fn split_of(code: &Code) -> usize
     ensures most { result ≤ length code.now.rows }
     ensures few { size code.now.field ^ (length code.now.rows - result) ≤ 4096 }
+    ensures greatest { 0 < result → 4096 < size code.now.field ^ suc (length code.now.rows - result) }
 {
     let k = code.dimension();
     k - tail_rows(code.field().size() as u64, k)

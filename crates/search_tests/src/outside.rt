@@ -120,6 +120,12 @@ fn line_is_refused(alloc: Global) -> Result<bool, NoMemory> {
     }
 }
 
+// Whether the line is read if a call after that which found its end would fail.
+fn end_is_found_once(alloc: Global) -> Result<bool, NoMemory> {
+    let mut source = MemorySource::new(alloc, LINE, 4, &[8])?;
+    Ok(gives(alloc, &mut source, 22, LINE))
+}
+
 // Whether all but one of so many spaces are read.
 fn spaces_are_read(alloc: Global, spaces: &[u8]) -> Result<bool, NoMemory> {
     let mut source = MemorySource::new(alloc, spaces, 10_000, &[])?;
@@ -132,6 +138,7 @@ fn a_source_is_read_to_its_end_or_the_limit(rt: HostRuntime) -> Result<(), Fail>
         assert!(rt; line_is_read(rt.alloc(), *limit, wanted)?, "at {limit}");
     }
     assert!(rt; line_is_refused(rt.alloc())?);
+    assert!(rt; end_is_found_once(rt.alloc())?);
     let spaces = vec![in rt.alloc(); b' '; 10_000]?;
     assert!(rt; spaces_are_read(rt.alloc(), &spaces)?);
     Ok(())
