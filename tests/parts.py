@@ -162,7 +162,7 @@ def changed(line, chance):
 
 
 def refusals(program):
-    """Words that are refused, scripts without a search, ranges that aren't there."""
+    """Words that are refused, scripts without a search, ranges that aren't there, and joins without a line."""
     script = SMALL[0]
     last = ends_of(script)[-1]
     for words in (["part"], ["part", "from=0"], ["part", "count=1"], ["part", "from=0", "count=0"], ["part", "from=00", "count=1"],
@@ -173,6 +173,10 @@ def refusals(program):
                          (b"Nothing(); " + script, ["from=0", "count=1"]), (b"", ["from=0", "count=1"])):
         if (got := run(program, "part", *words, given=given))[:2] != (15, b""):
             yield f"{given} {words}: {got}"
+    for given in (b"", b"\n", script):
+        wanted = parts.joined(given.decode().splitlines(), 1 << 20)
+        if (got := run(program, "join", given=given)) != (wanted[0], wanted[1].encode(), f"{wanted[2]}\n"):
+            yield f"join of {given}: {got}"
 
 
 def main():
