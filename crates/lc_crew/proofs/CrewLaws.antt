@@ -8,22 +8,26 @@
 --   all_fit           so do they with the rooms of workers that have done their work
 --   nothing_counted   and their counts are together 0
 --   is_root_last, last_is_root      the root's seat is the last worker's
+--   none_numbered     before the first one there is no number
+--   numbered_on       after one more worker the numbers go on
+--   numbered_last     and with the root, whose number is 0, they are as they have to be
 --   tables_of         the tables of the last seat and of the others
 --   closed_at         what a board and the rooms show, for one count
 --   closed            what a board and the rooms show after the seats of workers that have done their work have closed it
 --   rooms_back        what the rooms have counted, beside others that have counted nothing
-use Rattle.std.proofs.Common.{◌≡◌, ℕ, ◌+◌, ◌<◌, min, ◌==◌, true, false, Some, List, [], ◌∷◌, ◌++◌, map, length, get_or, take, drop, set, refl, sym, ap, ap₂, ◌∙◌, subst, arith, length-append}
+use Rattle.std.proofs.Common.{◌≡◌, ℕ, ◌+◌, ◌-◌, ◌<◌, ◌≤◌, min, ◌==◌, true, false, Some, List, [], ◌∷◌, ◌++◌, map, length, get_or, take, drop, set, refl, sym, ap, ap₂, ◌∙◌, subst, arith, length-append}
 use Rattle.std.specs.Prelude.{All, sum_by}
 use Rattle.std.proofs.lemmas.Bool.{false≢true}
 use Rattle.std.proofs.lemmas.List.{map-append, take_at, get_or_push}
 use Rattle.std.proofs.lemmas.List.Elements.{All-nil, All-cons, All-head, All-tail, All-append, All-map, All-weaker, All-pop, All-push}
 use Rattle.std.proofs.lemmas.List.Sums.{sum_by-cons, sum_by-append}
 use Rattle.lc_enumeration.specs.Message.{numbers_from}
+use Rattle.lc_enumeration.proofs.RecordsLaws.{numbers_append}
 use Rattle.lc_board.specs.Counting.{StandOnce, least}
 use Rattle.lc_board.specs.Board.{drawn_numbers, reported_values}
 use Rattle.lc_board.specs.Seats.{Opened, Seated, books_of}
 use Rattle.lc_crew.specs.declared.halves.Worker.{Worker}
-use Rattle.lc_crew.specs.Crew.{IsFresh, IsDone, Station, HaveDone, IsRootLast, station, least_over}
+use Rattle.lc_crew.specs.Crew.{IsFresh, IsDone, Station, HaveDone, IsRootLast, AreNumbered, station, least_over}
 use Rattle.lc_crew.proofs.GatherLaws.{Share, ShareDone, books_in, all_done}
 
 module _ {W : Type 0} (fits : W → Type 0) (tally : W → ℕ → ℕ) (value : ℕ → ℕ) (share : ℕ → ℕ → ℕ) (b : Opened) where
@@ -69,13 +73,13 @@ nothing_counted fits tally [] j all = refl
 nothing_counted fits tally (w ∷ rooms) j all =
     omega (arith, sum_by-cons (λ w. tally w j) w rooms, (All-head (IsFresh fits tally) w rooms all).1 j, nothing_counted fits tally rooms j (All-tail (IsFresh fits tally) w rooms all))
 
-pub is_root_last : {W : Type 0} (ws front : List (Worker W)) (last : Worker W) → ws ≡ front ++ last ∷ [] → last.seat.view.root ≡ true → last.seat.view.made ≡ length ws → IsRootLast ws
-is_root_last ws front last e root made =
-    (map station front, ap (map station) e ∙ map-append station front (last ∷ []) ∙ (λ i. map station front ++ (record { root = root i; made = made i }) ∷ []))
+pub is_root_last : {W : Type 0} (ws front : List (Worker W)) (last : Worker W) → ws ≡ front ++ last ∷ [] → last.number ≡ 0 → last.seat.view.root ≡ true → last.seat.view.made ≡ length ws → IsRootLast ws
+is_root_last ws front last e number root made =
+    (map station front, ap (map station) e ∙ map-append station front (last ∷ []) ∙ (λ i. map station front ++ (record { number = number i; root = root i; made = made i }) ∷ []))
 
 pub last_is_root : {W : Type 0} (ws front : List (Worker W)) (last : Worker W) → IsRootLast ws → ws ≡ front ++ last ∷ [] → (last.seat.view.root ≡ true) × (last.seat.view.made ≡ length ws)
 last_is_root ws front last r e =
-    let end : Station = record { root = true; made = length ws } in
+    let end : Station = record { number = 0; root = true; made = length ws } in
     let same : map station front ++ station last ∷ [] ≡ r.0 ++ end ∷ [] = sym (map-append station front (last ∷ [])) ∙ ap (map station) (sym e) ∙ r.1 in
     let n = length (map station front) in
     let a = length-append (map station front) (station last ∷ []) in
@@ -86,6 +90,24 @@ last_is_root ws front last r e =
     ∙ ap (λ l. get_or l n (station last)) same
     ∙ get_or_push r.0 end (station last) n (omega arith) in
     (ap (λ (s : Station). s.root) ends, ap (λ (s : Station). s.made) ends)
+
+pub none_numbered : {W : Type 0} (ws : List (Worker W)) → ws ≡ [] → map (λ w. w.number) ws ≡ numbers_from 1 0
+unfolding numbers_from
+none_numbered {W} ws e = ap (map (λ (w : Worker W). w.number)) e
+
+pub numbered_on : {W : Type 0} (n : ℕ) (before after : List (Worker W)) (w : Worker W) → after ≡ before ++ w ∷ [] → map (λ w. w.number) before ≡ numbers_from 1 (n - 1) → 1 ≤ n → w.number ≡ n → map (λ w. w.number) after ≡ numbers_from 1 (n + 1 - 1)
+unfolding numbers_from
+numbered_on {W} n before after w e so some is =
+    let number = λ (w : Worker W). w.number in
+    let last : 1 + (n - 1) ≡ w.number = omega (arith, some, is) in
+    let whole : n - 1 + 1 ≡ n + 1 - 1 = omega (arith, some) in
+    ap (map number) e ∙ map-append number before (w ∷ []) ∙ ap₂ ◌++◌ so (ap (λ m. m ∷ []) (sym last)) ∙ sym (numbers_append 1 (n - 1) 1) ∙ ap (numbers_from 1) whole
+
+pub numbered_last : {W : Type 0} (n : ℕ) (before after : List (Worker W)) (w : Worker W) → after ≡ before ++ w ∷ [] → map (λ w. w.number) before ≡ numbers_from 1 (n - 1) → length before + 1 ≡ n → w.number ≡ 0 → AreNumbered after
+numbered_last {W} n before after w e so many is =
+    let number = λ (w : Worker W). w.number in
+    let whole : n ≡ length after = omega (arith, many, ap (λ (l : List (Worker W)). length l) e, length-append before (w ∷ [])) in
+    ap (map number) e ∙ map-append number before (w ∷ []) ∙ ap₂ ◌++◌ so (ap (λ m. m ∷ []) is) ∙ ap (λ m. numbers_from 1 (m - 1) ++ 0 ∷ []) whole
 
 pub tables_of : {W : Type 0} (b : Opened) (all front : List (Worker W)) (last : Worker W) → all ≡ front ++ last ∷ [] → All (λ w. w.seat.table ≡ b.table) all → (last.seat.table ≡ b.table) × All (λ s. s.table ≡ b.table) (map (λ w. w.seat) front)
 tables_of {W} b all front last e h =

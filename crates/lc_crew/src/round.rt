@@ -1,7 +1,7 @@
 //! One round: so many blocks, by so many workers.
 ghost use Rattle.std.specs.Prelude.{◌≡◌, ℕ, ◌+◌, ◌^◌, ◌≤◌, ◌<◌, ◌++◌, ◌∷◌, [], true, length, map, sum_by, vec_capacity, All, IfOk, OnErr};
 ghost use Rattle.lc_enumeration.specs.Message.{numbers_from};
-ghost use Rattle.lc_crew.specs.Crew.{IsFresh, IsReady, IsDone, IsRootLast, least_over};
+ghost use Rattle.lc_crew.specs.Crew.{IsFresh, IsReady, IsDone, IsRootLast, AreNumbered, least_over};
 
 use crate::blocks::Blocks;
 use crate::busy::hands;
@@ -52,6 +52,7 @@ fn hire<B: Blocks>(
     ensures count { IfOk result (λ ws. length ws.items ≡ workers) }
     ensures ready { IfOk result (λ ws. All (IsReady (B.fits blocks.now) (B.tally blocks.now) board.now) ws.items) }
     ensures root { IfOk result (λ ws. IsRootLast ws.items) }
+    ensures numbers { IfOk result (λ ws. AreNumbered ws.items) }
 {
     let mut list = Vec::with_capacity(alloc, workers as usize)?;
     for number in 1..workers {

@@ -211,6 +211,7 @@ fn push_next(
     ensures done { IfOk result
         (λ more. OnFalse more
         ((m : ℕ) → sets.old.items ++ states_after code.now used.old.items (m + 1) ≡ sets.new.items)) }
+    ensures kept { IfOk result (λ more. OnFalse more (used.new.items ≡ used.old.items)) }
 {
     if has_too_few(alloc, code, used)? {
         return Ok(false);

@@ -229,6 +229,7 @@ fn next_support(support: &mut [usize], k: usize) -> Option<usize>
     ensures same { IfSome result (λ i. take i support.new ≡ take i support.old) }
     ensures last { IfNone result ((n : ℕ) → slice_get (supports_from 0 k (length support.old)) n ≡ Some support.old →
         slice_get (supports_from 0 k (length support.old)) (n + 1) ≡ None) }
+    ensures kept { IfNone result (support.new ≡ support.old) }
 {
     let many = support.len();
     let mut place = many;

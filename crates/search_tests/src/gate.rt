@@ -26,11 +26,13 @@ const TURNS: u64 = 1 << 26;
 // How often a search is tried until its other blocks come in time, since a busy machine may not run the other worker meanwhile.
 const TRIES: u64 = 200;
 
-// A gate that holds the report of one block until the three other blocks have come to it, and keeps whether they came.
+// A gate that holds the reports of the blocks with these flags until all of the round have come to it. It keeps whether they came, and
+// which workers passed it with a block of the round.
 #[derive(Drop)]
 struct WaitingGate {
     held: u64,
     flags: AtomicU64,
+    workers: AtomicU64,
     met: AtomicBool,
 }
 
@@ -39,6 +41,7 @@ impl WaitingGate {
         WaitingGate {
             held,
             flags: AtomicU64::new(0),
+            workers: AtomicU64::new(0),
             met: AtomicBool::new(false),
         }
     }
@@ -55,31 +58,35 @@ impl WaitingGate {
 }
 
 impl Gate for WaitingGate {
-    fn before_report(&self, _worker: u32, block: u64) {
+    fn before_report(&self, worker: u32, block: u64) {
         if block < FIRST || block > LAST {
             return;
         }
+        self.workers.fetch_or(1 << worker.min(63), Ordering::SeqCst);
         self.flags.fetch_or(1 << block, Ordering::SeqCst);
-        if block == self.held {
+        if self.held & (1 << block) != 0 {
             self.wait();
         }
     }
 }
 
-// What a search with two workers that pass the gate answers.
+// What a search with so many workers that pass the gate answers.
 fn search_through<R: Threads + Sync>(
     rt: &R,
     alloc: Global,
     code: &Code,
+    workers: u32,
     gate: &WaitingGate,
 ) -> Result<Answer, NoMemory>
     requires dimension { 0 < length code.now.rows }
+    requires workers { (1 ≤ workers) × (workers ≤ 256) }
 {
     let mut search = Search::start(alloc, code, 1 << 20)?;
-    run(rt, alloc, &mut search, 2, u64::MAX, gate)
+    run(rt, alloc, &mut search, workers, u64::MAX, gate)
 }
 
-// What is seen of a search: another answer than it must have, or the answer, and whether the other blocks came while one was held.
+// What is seen of a search: another answer than it must have or other workers than it has, or the answer, and whether the other blocks
+// came while one was held.
 #[derive(Clone, Copy)]
 enum Seen {
     Wrong,
@@ -87,17 +94,19 @@ enum Seen {
     Together,
 }
 
-// What is seen of a search with two workers, while the report of this block is held.
+// What is seen of a search with so many workers, whose numbers count from 0, while the reports of these blocks are held.
 fn seen_at_the_gate<R: Threads + Sync>(
     rt: &R,
     alloc: Global,
     code: &Code,
+    workers: u32,
     held: u64,
 ) -> Result<Seen, NoMemory>
     requires dimension { 0 < length code.now.rows }
+    requires workers { (1 ≤ workers) × (workers ≤ 4) }
 {
     let gate = WaitingGate::holding(held);
-    let answer = search_through(rt, alloc, code, &gate)?;
+    let answer = search_through(rt, alloc, code, workers, &gate)?;
     if answer
         != (Answer::Exact {
             weight: 7,
@@ -107,23 +116,28 @@ fn seen_at_the_gate<R: Threads + Sync>(
     {
         return Ok(Seen::Wrong);
     }
-    if gate.met.load(Ordering::SeqCst) {
-        return Ok(Seen::Together);
+    if !gate.met.load(Ordering::SeqCst) {
+        return Ok(Seen::Apart);
     }
-    Ok(Seen::Apart)
+    if gate.workers.load(Ordering::SeqCst) != (1 << workers) - 1 {
+        return Ok(Seen::Wrong);
+    }
+    Ok(Seen::Together)
 }
 
-// Whether each search is so answered, and in one of them the other blocks come while the report of this one is held.
+// Whether each search is so answered, and in one of them the other blocks come while the reports of these are held.
 fn come_to_the_gate<R: Threads + Sync>(
     rt: &R,
     alloc: Global,
     code: &Code,
+    workers: u32,
     held: u64,
 ) -> Result<bool, NoMemory>
     requires dimension { 0 < length code.now.rows }
+    requires workers { (1 ≤ workers) × (workers ≤ 4) }
 {
     for _ in 0..TRIES {
-        match seen_at_the_gate(rt, alloc, code, held)? {
+        match seen_at_the_gate(rt, alloc, code, workers, held)? {
             Seen::Wrong => return Ok(false),
             Seen::Together => return Ok(true),
             Seen::Apart => (),
@@ -138,7 +152,19 @@ fn come_to_the_gate<R: Threads + Sync>(
 fn blocks_come_to_the_gate_while_another_is_held(rt: HostRuntime) -> Result<(), Fail> {
     let code = code_of(&rt, rt.alloc(), &BCH_63)?;
     for held in FIRST..=LAST {
-        assert!(rt; come_to_the_gate(&rt, rt.alloc(), &code, held)?, "{held}");
+        assert!(rt;
+            come_to_the_gate(&rt, rt.alloc(), &code, 2, 1 << held)?,
+            "{held}"
+        );
     }
+    Ok(())
+}
+
+// Each of four workers does one of the four blocks while all are held, and they have the numbers 0 to 3. A body that gives two
+// workers one number fails.
+#[test]
+fn four_workers_come_to_the_gate(rt: HostRuntime) -> Result<(), Fail> {
+    let code = code_of(&rt, rt.alloc(), &BCH_63)?;
+    assert!(rt; come_to_the_gate(&rt, rt.alloc(), &code, 4, ALL)?);
     Ok(())
 }

@@ -1,7 +1,23 @@
-use Rattle.std.proofs.Common.{rules, arith}
+use Rattle.std.proofs.Common.{rules, refl, arith}
 use Rattle.lc_crew.specs.Crew.{IsReady}
-use Rattle.lc_crew.proofs.CrewLaws.{is_root_last, grown}
+use Rattle.lc_crew.proofs.CrewLaws.{is_root_last, grown, none_numbered, numbered_on, numbered_last}
 use Rattle.lc_crew.proofs.round.hire.Goals as goal
+
+pub loop-number-init : goal.loop-number-init
+loop-number-init g c = (
+  search rules,
+  search rules,
+  search rules,
+  search rules,
+  search rules,
+  search rules,
+  search rules,
+  search rules,
+  search rules,
+  search rules,
+  search rules,
+  none_numbered _ (search rules),
+)
 
 pub loop-number-preserved : goal.loop-number-preserved
 loop-number-preserved g c =
@@ -17,6 +33,7 @@ loop-number-preserved g c =
       search rules,
       search rules,
       search rules,
+      numbered_on _ _ _ _ c.in_ok-push.ensures.items i.11 (search rules) refl,
     )
 
 pub returns-clause-ready : goal.returns-clause-ready
@@ -27,7 +44,7 @@ returns-clause-ready g c =
 pub returns-clause-root : goal.returns-clause-root
 returns-clause-root g c =
     let i = c.loop-number.invariant in
-    is_root_last _ _ _ c.in_ok-push-2.ensures.items i.1 (search rules)
+    is_root_last _ _ _ c.in_ok-push-2.ensures.items refl i.1 (search rules)
 
 pub returns-clause-place : goal.returns-clause-place
 returns-clause-place g c =
@@ -36,3 +53,8 @@ returns-clause-place g c =
     let p = c.take_one-room-2.ensures.place in
     let ok = c.args.spare.now.ok in
     omega (arith, i.9, i.10, n, p, ok.0, ok.1)
+
+pub returns-clause-numbers : goal.returns-clause-numbers
+returns-clause-numbers g c =
+    let i = c.loop-number.invariant in
+    numbered_last _ _ _ _ c.in_ok-push-2.ensures.items i.11 (search rules) refl

@@ -1,5 +1,6 @@
-use Rattle.std.proofs.Common.{◌≡◌, ◌+◌, ◌≤◌, [], true, length, vec_capacity}
+use Rattle.std.proofs.Common.{◌≡◌, ◌+◌, ◌-◌, ◌≤◌, [], true, length, map, vec_capacity}
 use Rattle.std.specs.Prelude.{All}
+use Rattle.lc_enumeration.specs.Message.{numbers_from}
 use Rattle.lc_crew.specs.Crew.{IsFresh, IsReady}
 use Rattle.lc_crew.proofs.round.hire.Given as goal
 
@@ -9,3 +10,4 @@ invariant-loop-number g l =
     × (l.root.view.book.drawn ≡ []) × (l.root.view.book.reported ≡ []) × All (IsReady (g.B.Blocks.fits l.fn.blocks) (g.B.Blocks.tally l.fn.blocks) l.fn.board) l.list.items
     × All (IsFresh (g.B.Blocks.fits l.fn.blocks) (g.B.Blocks.tally l.fn.blocks)) l.spare.items × (l.fn.workers + 1 ≤ length l.spare.items + l.number)
     × (length l.spare.items + l.number ≡ length l.fn.spare.items + 1) × (vec_capacity l.spare ≡ vec_capacity l.fn.spare)
+    × (map (λ w. w.number) l.list.items ≡ numbers_from 1 (l.number - 1))
