@@ -119,7 +119,9 @@ fn seen_at_the_gate<R: Threads + Sync>(
     if !gate.met.load(Ordering::SeqCst) {
         return Ok(Seen::Apart);
     }
-    if gate.workers.load(Ordering::SeqCst) != (1 << workers) - 1 {
+    // one worker may do all blocks before one that is held; if all are held, each is another worker's
+    let numbers = gate.workers.load(Ordering::SeqCst);
+    if numbers >= 1 << workers || (held == ALL && numbers != (1 << workers) - 1) {
         return Ok(Seen::Wrong);
     }
     Ok(Seen::Together)
