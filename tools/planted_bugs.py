@@ -13,7 +13,8 @@ others. A bug of a definition, in specs/, names a law: it is refused if that law
 
 With names of crates it prints a line for each bug that is proved, can't be tried or doesn't compile, and for each crate how many are
 refused: by a goal that is not proved, or in form, since a written answer of the proof no longer fits what it is for. Of the latter the
-clause has to be read. It ends with 1 if a bug is proved or can't be tried. A crate takes a minute to fifteen.
+clause has to be read. It ends with 1 if a bug is proved or can't be tried. A crate takes a minute to fifteen, or more where many bugs are
+in one function; on standard error it says how many have been tried.
 
 With CODES_TREE, a tree in which `rt ci` proved these sources, it works over the libraries there; without it `rt check` proves first what
 the crate stands on.
@@ -206,6 +207,7 @@ def tried(crate, folder, top):
                 found[verdict].append(bug)
         alone = len(left) == len(chosen)
         waiting = [bug for bug in waiting if bug not in chosen] + left
+        print(f"{crate}: {len(all_bugs) - len(waiting)} of {len(all_bugs)} tried", file=sys.stderr, flush=True)
     return found
 
 
